@@ -1,0 +1,35 @@
+-- `cell::legal` meets its contract: each range test is one of the definition's.
+use borrow.Author.Needs.{needs}
+use Rattle.cell.specs.Cell.{legal}
+use Rattle.cell.proofs.legal.Statement.{statement}
+use Rattle.cell.proofs.legal.Tie as tie
+
+within-requires : tie.Need-within-requires
+within-requires c κs = search needs
+
+within-requires-2 : tie.Need-within-requires-2
+within-requires-2 c κs = search needs
+
+within-requires-3 : tie.Need-within-requires-3
+within-requires-3 c κs = search needs
+
+within-requires-4 : tie.Need-within-requires-4
+within-requires-4 c κs = search needs
+
+within-requires-5 : tie.Need-within-requires-5
+within-requires-5 c κs = search needs
+
+returns : tie.Need-returns
+unfolding legal
+returns c = rw (c .before .before .before .before .within .ensures, c .before .before .before .within2 .ensures, c .before .before .within3 .ensures, c .before .within4 .ensures, c .within5 .ensures)
+
+pub legal-spec : {M : Type 1} → statement M
+legal-spec =
+    tie.close
+    (tie.spec
+    within-requires
+    within-requires-2
+    within-requires-3
+    within-requires-4
+    within-requires-5
+    returns)

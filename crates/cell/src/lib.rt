@@ -1,0 +1,106 @@
+// A cell as an instruction: decoding it, and encoding it from an opcode and operands.
+ghost use mathlib.Core.Path.{_≡_};
+ghost use Rattle.cell.specs.Cell.{within as inside, legal as legalOf, immediate as immediateOf, formOf, decodeOf, encodeOf, saidOf};
+
+// How the 24 bits below an opcode are read: three registers, a register and an immediate, or not at all.
+pub enum Form {
+    Registers,
+    Immediate,
+    Reserved,
+}
+
+// A decoded cell. A reserved cell is answered whole.
+pub enum Instruction {
+    Registers { opcode: u8, n: u8, m: u8, l: u8 },
+    Immediate { opcode: u8, n: u8, imm: u16 },
+    Reserved(u32),
+}
+
+// The operands of an instruction to encode, in either form.
+pub enum Operands {
+    Registers { n: u8, m: u8, l: u8 },
+    Immediate { n: u8, imm: u16 },
+}
+
+// What encoding answers: the cell, refusal 21 for a reserved opcode, or refusal 22 for operands of the other form.
+pub enum Encoded {
+    Cell(u32),
+    ReservedOpcode,
+    OtherForm,
+}
+
+// Whether x is one of the numbers a to b.
+fn within(a: u8, b: u8, x: u8) -> bool
+    ensures { λ r. ⌜ r ≡ inside a b x ⌝ }
+{
+    (a <= x) & (x <= b)
+}
+
+// Whether an opcode is legal; the others are reserved.
+fn legal(x: u8) -> bool
+    ensures { λ r. ⌜ r ≡ legalOf x ⌝ }
+{
+    within(0, 1, x) | within(3, 7, x) | within(16, 54, x) | within(80, 107, x) | within(121, 122, x)
+}
+
+// Whether a legal opcode is of immediate form.
+fn immediate(x: u8) -> bool
+    ensures { λ r. ⌜ r ≡ immediateOf x ⌝ }
+{
+    within(3, 7, x) | within(35, 53, x) | within(93, 106, x) | within(121, 122, x)
+}
+
+// The form of an opcode.
+pub fn form_of(opcode: u8) -> Form
+    ensures { λ r. ⌜ r ≡ formOf opcode ⌝ }
+{
+    if legal(opcode) {
+        if immediate(opcode) {
+            Form::Immediate
+        } else {
+            Form::Registers
+        }
+    } else {
+        Form::Reserved
+    }
+}
+
+// The instruction that a cell is.
+pub fn decode(cell: u32) -> Instruction
+    ensures { λ r. ⌜ r ≡ decodeOf cell ⌝ }
+{
+    let opcode = (cell / 16777216) as u8;
+    let n = (cell / 65536 % 256) as u8;
+    let m = (cell / 256 % 256) as u8;
+    let l = (cell % 256) as u8;
+    let imm = (cell % 65536) as u16;
+    let form = form_of(opcode);
+    match form {
+        Form::Registers => Instruction::Registers { opcode, n, m, l },
+        Form::Immediate => Instruction::Immediate { opcode, n, imm },
+        Form::Reserved => Instruction::Reserved(cell),
+    }
+}
+
+// The cell of an opcode and operands, or the refusal.
+pub fn encode(opcode: u8, operands: Operands) -> Encoded
+    ensures { λ r. ⌜ saidOf r ≡ encodeOf opcode operands ⌝ }
+{
+    let form = form_of(opcode);
+    let high = 16777216 * (opcode as u32);
+    match form {
+        Form::Registers => match operands {
+            Operands::Registers { n, m, l } => {
+                Encoded::Cell(high + 65536 * (n as u32) + 256 * (m as u32) + (l as u32))
+            }
+            Operands::Immediate { n: _, imm: _ } => Encoded::OtherForm,
+        },
+        Form::Immediate => match operands {
+            Operands::Registers { n: _, m: _, l: _ } => Encoded::OtherForm,
+            Operands::Immediate { n, imm } => {
+                Encoded::Cell(high + 65536 * (n as u32) + (imm as u32))
+            }
+        },
+        Form::Reserved => Encoded::ReservedOpcode,
+    }
+}
