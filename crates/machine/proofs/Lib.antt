@@ -1,0 +1,11 @@
+pub mod Pointers
+pub mod Lists
+pub mod Parts
+pub mod Words
+pub mod Damage
+pub mod Safe
+pub mod Steps
+pub mod Keeps
+pub mod Turns
+pub mod Checks
+pub mod Returns

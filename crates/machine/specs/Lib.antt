@@ -1,0 +1,5 @@
+pub mod State
+pub mod Effect
+pub mod Journal
+pub mod Calls
+pub mod Inner

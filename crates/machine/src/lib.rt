@@ -1,0 +1,274 @@
+// The machine: 256 registers, settings and depth by value, over cells and a journal that the host lends.
+ghost use mathlib.Core.Path.{_≡_};
+ghost use Prim.Native.Nat.{_≤_};
+ghost use Rattle.machine.specs.State.{freshMachine, stateOf, capacityOf};
+ghost use Rattle.machine.specs.Calls.{checkOf, runFrom, backFrom, runOf, backOf};
+ghost use Rattle.machine.specs.Inner.{Ready, checkedOf, saidBy, outOf};
+
+mod effects;
+mod execute;
+mod journal;
+mod turn;
+mod undo;
+
+use turn::Verdict;
+use turn::advance;
+use undo::Returned;
+use undo::take_back;
+
+// The addresses from 0xFFFF0000 on that LDST knows. A PC there or above has ended.
+pub struct Address;
+
+impl Address {
+    pub const FLAGS: u32 = 0xFFFF0000;
+
+    pub const MASK: u32 = 0xFFFF0001;
+
+    pub const MODE: u32 = 0xFFFF0002;
+}
+
+pub struct Settings {
+    pub flags: u32,
+    pub mask: u32,
+    pub mode: u32,
+}
+
+pub struct Machine {
+    pub regs: [u32; 256],
+    pub settings: Settings,
+    pub depth: u32,
+}
+
+impl Machine {
+    // A fresh machine: all registers 0, flags 0, mask 0, rounding mode 3, depth 0.
+    pub fn fresh() -> Self
+        ensures { λ r. ⌜ r ≡ freshMachine ⌝ }
+    {
+        Machine {
+            regs: [0u32; 256],
+            settings: Settings {
+                flags: 0,
+                mask: 0,
+                mode: 3,
+            },
+            depth: 0,
+        }
+    }
+}
+
+// Why a call stopped, in the order of the stops' numbers, 0 to 12.
+pub enum Stop {
+    Done,
+    Ended,
+    Trap,
+    Int { value: u32, imm: u16 },
+    Fetch,
+    Fault,
+    Float,
+    Full,
+    Start,
+    Damaged,
+    Unsettled,
+    Deep,
+    Cells,
+}
+
+// What a call leaves beside cells and journal.
+pub struct Ran {
+    pub machine: Machine,
+    pub stop: Stop,
+    pub count: u64,
+}
+
+// A register that a step writes, where it is used.
+pub struct Write {
+    pub used: bool,
+    pub number: u8,
+    pub value: u32,
+}
+
+// A cell that a step stores to memory, where it is used.
+pub struct Store {
+    pub used: bool,
+    pub address: u32,
+    pub value: u32,
+}
+
+// What an instruction answers: to go on, or INT with its two values.
+pub enum Answer {
+    Onward,
+    Interrupt { value: u32, imm: u16 },
+}
+
+// What an instruction does: the next PC, at most two registers (b first if reversed), at most one cell, the settings, and the
+// flags that it wrote as 1.
+pub struct Effect {
+    pub pc: u32,
+    pub a: Write,
+    pub b: Write,
+    pub reversed: bool,
+    pub store: Store,
+    pub settings: Settings,
+    pub raised: u32,
+    pub answer: Answer,
+}
+
+// Whether a call can begin: it can, or stop 12, 10 or 11.
+pub enum Checked {
+    Fine,
+    Bad(Stop),
+}
+
+// J: the lesser of 65,536 and the journal's length divided by 8.
+fn capacity(journal: &[u32]) -> u32
+    ensures { λ r. ⌜ r ≡ capacityOf (now (journal .entry)) ⌝ }
+{
+    let entries = journal.len() / 8;
+    if entries < 65536 {
+        entries as u32
+    } else {
+        65536
+    }
+}
+
+// Once a call: 12, 10, 11.
+fn check(size: usize, s: Settings, most: u32, depth: u32) -> Checked
+    ensures { λ r. ⌜ checkedOf r ≡ saidBy (checkOf size s most depth) ⌝ }
+{
+    if size == 0 {
+        return Checked::Bad(Stop::Cells);
+    }
+    if 16384 < size {
+        return Checked::Bad(Stop::Cells);
+    }
+    if 512 <= s.flags {
+        return Checked::Bad(Stop::Unsettled);
+    }
+    if 512 <= s.mask {
+        return Checked::Bad(Stop::Unsettled);
+    }
+    if 4 <= s.mode {
+        return Checked::Bad(Stop::Unsettled);
+    }
+    if most < depth {
+        return Checked::Bad(Stop::Deep);
+    }
+    Checked::Fine
+}
+
+// As many steps as the budget says, or up to a stop. The registers are copied out once and put back once.
+fn run_on(m: Machine, cells: &mut [u32], journal: &mut [u32], budget: u64) -> Ran
+    requires { ⌜ Ready (m .settings) (m .depth) (now journal) ⌝ }
+    ensures { λ r. ⌜ outOf r (now (cells .exit)) (now (journal .exit)) ≡ runFrom budget 0 (stateOf m (now (cells .entry)) (now (journal .entry))) ⌝ }
+{
+    let mut regs = m.regs;
+    let mut settings = m.settings;
+    let mut depth = m.depth;
+    let mut done: u64 = 0;
+    let mut stop = Stop::Done;
+    while done < budget {
+        let step = advance(&mut regs, settings, depth, cells, journal);
+        settings = step.settings;
+        depth = step.depth;
+        let verdict = step.verdict;
+        match verdict {
+            Verdict::Going => {
+                done = done + 1;
+            }
+            Verdict::Stopped(named) => {
+                stop = named;
+                done = done + 1;
+                break;
+            }
+            Verdict::Refused(named) => {
+                stop = named;
+                break;
+            }
+        }
+    }
+    Ran {
+        machine: Machine {
+            regs,
+            settings,
+            depth,
+        },
+        stop,
+        count: done,
+    }
+}
+
+// As many steps back as the number says, or up to a stop. The journal is not written.
+fn back_on(m: Machine, cells: &mut [u32], journal: &[u32], number: u64) -> Ran
+    requires { ⌜ m .depth ≤ capacityOf (now journal) ⌝ }
+    ensures { λ r. ⌜ outOf r (now (cells .exit)) (now (journal .entry)) ≡ backFrom number 0 (stateOf m (now (cells .entry)) (now (journal .entry))) ⌝ }
+{
+    let mut regs = m.regs;
+    let mut settings = m.settings;
+    let mut depth = m.depth;
+    let mut done: u64 = 0;
+    let mut stop = Stop::Done;
+    while done < number {
+        let returned = take_back(&mut regs, settings, depth, cells, journal);
+        match returned {
+            Returned::Back(before) => {
+                settings = before;
+                depth = depth - 1;
+                done = done + 1;
+            }
+            Returned::Start => {
+                stop = Stop::Start;
+                break;
+            }
+            Returned::Damaged => {
+                stop = Stop::Damaged;
+                break;
+            }
+        }
+    }
+    Ran {
+        machine: Machine {
+            regs,
+            settings,
+            depth,
+        },
+        stop,
+        count: done,
+    }
+}
+
+// A run of a budget: the step repeated until the budget is done or a stop is named.
+pub fn run(m: Machine, cells: &mut [u32], journal: &mut [u32], budget: u64) -> Ran
+    ensures { λ r. ⌜ outOf r (now (cells .exit)) (now (journal .exit)) ≡ runOf budget (stateOf m (now (cells .entry)) (now (journal .entry))) ⌝ }
+{
+    let checked = check(cells.len(), m.settings, capacity(journal), m.depth);
+    match checked {
+        Checked::Fine => run_on(m, cells, journal, budget),
+        Checked::Bad(stop) => Ran {
+            machine: m,
+            stop,
+            count: 0,
+        },
+    }
+}
+
+// A step is a run of budget 1.
+pub fn step(m: Machine, cells: &mut [u32], journal: &mut [u32]) -> Ran
+    ensures { λ r. ⌜ outOf r (now (cells .exit)) (now (journal .exit)) ≡ runOf 1 (stateOf m (now (cells .entry)) (now (journal .entry))) ⌝ }
+{
+    run(m, cells, journal, 1)
+}
+
+// Back by a number of steps: the last step taken back until the number is done or a stop is named.
+pub fn back(m: Machine, cells: &mut [u32], journal: &[u32], number: u64) -> Ran
+    ensures { λ r. ⌜ outOf r (now (cells .exit)) (now (journal .entry)) ≡ backOf number (stateOf m (now (cells .entry)) (now (journal .entry))) ⌝ }
+{
+    let checked = check(cells.len(), m.settings, capacity(journal), m.depth);
+    match checked {
+        Checked::Fine => back_on(m, cells, journal, number),
+        Checked::Bad(stop) => Ran {
+            machine: m,
+            stop,
+            count: 0,
+        },
+    }
+}
