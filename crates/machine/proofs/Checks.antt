@@ -9,12 +9,14 @@ use native.Mathlib.Omega.{arith}
 use lib.Dec.{leb, ltb, eqb}
 use lib.ListN.{length}
 use borrow.Author.Tests.{leb-false, ltb-false, eqb-false}
-use Rattle.machine.specs.declared.Settings.{Settings}
-use Rattle.machine.specs.State.{State, flagsBound, mostCells, capacityOf}
+use Rattle.effect.specs.declared.Settings.{Settings}
+use Rattle.machine.specs.State.{State, mostCells, capacityOf}
+use Rattle.effect.specs.Operands.{flagsBound}
 use Rattle.machine.specs.Calls.{Said, plainly, Out, stopAt, badCells, badSettings, checkOf, called, callOf}
 use Rattle.machine.specs.declared.Checked.{Checked}
-use Rattle.machine.specs.Inner.{InRange, saidBy, checkedOf}
-use Rattle.machine.proofs.Safe.{or-left, or-right}
+use Rattle.effect.specs.Inner.{InRange}
+use Rattle.machine.specs.Inner.{saidBy, checkedOf}
+use Rattle.effect.proofs.Safe.{or-left, or-right}
 use Rattle.machine.proofs.Keeps.{past}
 
 none-said : (o : Option ℕ) → saidBy o ≡ none → o ≡ none

@@ -12,12 +12,15 @@ use lib.Dec.{leb}
 use lib.ListN.{length}
 use lib.Seq.{sets, length-sets}
 use borrow.Author.Tests.{leb-false}
-use Rattle.machine.specs.declared.Settings.{Settings}
-use Rattle.machine.specs.State.{State, firstSpecial, capacityOf, pcOf}
+use Rattle.effect.specs.declared.Settings.{Settings}
+use Rattle.machine.specs.State.{State, capacityOf}
+use Rattle.effect.specs.Operands.{firstSpecial, pcOf}
 use Rattle.machine.specs.Journal.{settledOf, settingsAfter, regsAfter, entryOf, endedOf, applyOf}
-use Rattle.machine.specs.Calls.{instructionOf, refusedBy, refusalOf, effectIn, moved, stepOf}
-use Rattle.machine.specs.Inner.{InRange, Ready}
-use Rattle.machine.proofs.Safe.{Safe, safe}
+use Rattle.machine.specs.Calls.{instructionOf, refusalOf, effectIn, moved, stepOf}
+use Rattle.effect.specs.Refusal.{refusedBy}
+use Rattle.effect.specs.Inner.{InRange}
+use Rattle.machine.specs.Inner.{Ready}
+use Rattle.effect.proofs.Safe.{Safe, safe}
 
 -- no test of a row stopped
 not-some : {k : ℕ} → some k ≡ none → ⊥

@@ -1,9 +1,7 @@
-pub mod Pointers
 pub mod Lists
 pub mod Parts
 pub mod Words
 pub mod Damage
-pub mod Safe
 pub mod Steps
 pub mod Keeps
 pub mod Turns

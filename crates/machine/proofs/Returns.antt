@@ -10,7 +10,7 @@ use native.Mathlib.Omega.{arith}
 use lib.Dec.{eqb}
 use lib.ListN.{length}
 use borrow.Author.Tests.{eqb-false}
-use Rattle.machine.specs.declared.Settings.{Settings}
+use Rattle.effect.specs.declared.Settings.{Settings}
 use Rattle.machine.specs.declared.undo.Returned.{Returned}
 use Rattle.machine.specs.State.{State, capacityOf}
 use Rattle.machine.specs.Journal.{lastOf, damagedOf, undoOf}

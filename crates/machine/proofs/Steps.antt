@@ -11,13 +11,15 @@ use lib.ListN.{length}
 use borrow.Author.Tests.{lt-leb, le-leb, eqb-true}
 use Rattle.cell.specs.declared.Instruction.{Instruction}
 use Rattle.cell.specs.declared.Instruction.the-variants.{Registers, Immediate, Reserved}
-use Rattle.machine.specs.declared.Effect.{Effect}
-use Rattle.machine.specs.declared.execute.Considered.the-variants.{Float, Fault, Does}
-use Rattle.machine.specs.State.{State, firstSpecial, capacityOf, pcOf, operandOf}
+use Rattle.effect.specs.declared.Effect.{Effect}
+use Rattle.effect.specs.declared.execute.Considered.the-variants.{Float, Fault, Does}
+use Rattle.machine.specs.State.{State, capacityOf}
+use Rattle.effect.specs.Operands.{firstSpecial, pcOf, operandOf}
 use Rattle.machine.specs.Journal.{applyOf}
-use Rattle.machine.specs.Calls.{floats, faults, refusedBy, instructionOf, refusalOf, effectIn, plainly, Course, refused, stopped, answered, courseOf, stepOf}
-use Rattle.machine.specs.Inner.{InRange, considered, consideredOf}
-use Rattle.machine.proofs.Safe.{Safe, safe}
+use Rattle.effect.specs.Refusal.{floats, faults, refusedBy}
+use Rattle.machine.specs.Calls.{instructionOf, refusalOf, effectIn, plainly, Course, refused, stopped, answered, courseOf, stepOf}
+use Rattle.effect.specs.Inner.{InRange, considered, consideredOf}
+use Rattle.effect.proofs.Safe.{Safe, safe}
 
 module _ (s : State) where
   pub refused-with : (k : ℕ) → refusalOf s ≡ some k → record { state = s; course = refused (plainly k) } ≡ stepOf s

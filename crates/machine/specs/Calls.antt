@@ -1,22 +1,23 @@
 -- One step, and the calls step, run and back with their stops: document 01, 'Stops of step, run and back'.
 use Prim.Native.Nat.{ℕ, zero, suc, _+_}
-use mathlib.Core.Bool.{Bool, true, false, cond, not, _&&_, _||_}
+use mathlib.Core.Bool.{Bool, cond, not, _||_}
 use mathlib.Core.Option.{Option, none, some}
 use mathlib.Core.List.{List}
 use lib.Bits.{bitAnd}
 use lib.Dec.{leb, ltb, eqb}
 use lib.ListN.{getD, length}
 use Rattle.cell.specs.declared.Instruction.{Instruction}
-use Rattle.cell.specs.declared.Instruction.the-variants.{Registers, Immediate, Reserved}
 use Rattle.cell.specs.Cell.{decodeOf}
-use Rattle.machine.specs.declared.Settings.{Settings}
-use Rattle.machine.specs.declared.Effect.{Effect}
-use Rattle.machine.specs.declared.Answer.{Answer}
-use Rattle.machine.specs.declared.Answer.the-variants.{Onward, Interrupt}
+use Rattle.effect.specs.Refusal.{refusedBy}
+use Rattle.effect.specs.declared.Settings.{Settings}
+use Rattle.effect.specs.declared.Effect.{Effect}
+use Rattle.effect.specs.declared.Answer.{Answer}
+use Rattle.effect.specs.declared.Answer.the-variants.{Onward, Interrupt}
 use Rattle.machine.specs.declared.Stop.{Stop}
 use Rattle.machine.specs.declared.Stop.the-variants.{Done, Ended, Trap, Int, Fetch, Fault, Float, Full, Start, Damaged, Unsettled, Deep, Cells}
-use Rattle.machine.specs.State.{State, flagsBound, mostCells, firstSpecial, capacityOf, pcOf, operandOf}
-use Rattle.machine.specs.Effect.{effectOf, behindOf}
+use Rattle.machine.specs.State.{State, mostCells, capacityOf}
+use Rattle.effect.specs.Operands.{flagsBound, pcOf}
+use Rattle.effect.specs.Effect.{effectOf, behindOf}
 use Rattle.machine.specs.Journal.{endedOf, regsAfter, applyOf, lastOf, damagedOf, undoOf}
 
 -- What a call says at its end: the stop's number; for INT Rn's value and imm, and 0 and 0 for all other stops.
@@ -42,21 +43,6 @@ saidOf Damaged = plainly 9
 saidOf Unsettled = plainly 10
 saidOf Deep = plainly 11
 saidOf Cells = plainly 12
-
--- 6: opcode 80 to 106.
-abbrev pub floats : ℕ → Bool
-floats opcode = leb 80 opcode && leb opcode 106
-
--- 5: LDST at an address from M to 0xFFFEFFFF, even if the other pointer is illegal.
-abbrev pub faults : ℕ → ℕ → Bool
-faults m p = leb m p && ltb p firstSpecial
-
-unfoldable pub refusedBy : Instruction → List ℕ → ℕ → Option ℕ
-refusedBy (Registers opcode n m l) regs size =
-    cond (floats opcode) (some 6)
-    (cond (eqb opcode 1 && (faults size (operandOf regs l) || faults size (operandOf regs m))) (some 5) none)
-refusedBy (Immediate opcode n imm) regs size = cond (floats opcode) (some 6) none
-refusedBy (Reserved c) regs size = none
 
 -- The instruction that the cell at PC is.
 abbrev pub instructionOf : State → Instruction

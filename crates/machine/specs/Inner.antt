@@ -6,36 +6,19 @@ use mathlib.Core.Option.{Option, none, some}
 use mathlib.Core.List.{List}
 use lib.Dec.{eqb}
 use lib.ListN.{length}
-use Rattle.cell.specs.declared.Instruction.{Instruction}
-use Rattle.machine.specs.declared.Settings.{Settings}
-use Rattle.machine.specs.declared.Effect.{Effect}
-use Rattle.machine.specs.declared.execute.Considered.{Considered}
-use Rattle.machine.specs.declared.execute.Considered.the-variants.{Float, Fault, Does}
+use Rattle.effect.specs.Inner.{InRange}
+use Rattle.effect.specs.declared.Settings.{Settings}
+use Rattle.effect.specs.declared.Effect.{Effect}
 use Rattle.machine.specs.declared.Ran.{Ran}
 use Rattle.machine.specs.declared.turn.Verdict.{Verdict}
 use Rattle.machine.specs.declared.turn.Verdict.the-variants.{Going, Stopped, Refused}
 use Rattle.machine.specs.declared.Checked.{Checked}
 use Rattle.machine.specs.declared.Checked.the-variants.{Fine, Bad}
-use Rattle.machine.specs.State.{State, stateOf, flagsBound, capacityOf}
-use Rattle.machine.specs.Effect.{effectOf, behindOf}
+use Rattle.machine.specs.State.{State, stateOf, capacityOf}
 use Rattle.machine.specs.declared.undo.Returned.{Returned}
 use Rattle.machine.specs.declared.undo.Returned.the-variants.{Back, Start, Damaged}
 use Rattle.machine.specs.Journal.{lastOf, damagedOf, undoOf}
-use Rattle.machine.specs.Calls.{Said, plainly, saidOf, Course, going, stopped, refused, refusedBy, Out}
-
--- the instruction's own refusal, 6 or 5, or its effect
-abbrev pub considered : Option ℕ → Effect → Considered
-considered (some k) e = cond (eqb k 6) Float Fault
-considered none e = Does e
-
-unfoldable pub consideredOf : Instruction → List ℕ → Settings → List ℕ → Considered
-consideredOf i regs s cells = considered (refusedBy i regs (length cells)) (effectOf i regs s (behindOf i regs s cells))
-
--- settings that a call takes
-pub record InRange (s : Settings) : Type 0 where
-  pub flags : s .flags < flagsBound
-  pub mask : s .mask < flagsBound
-  pub mode : s .mode < 4
+use Rattle.machine.specs.Calls.{Said, plainly, saidOf, Course, going, stopped, refused, Out}
 
 -- a store is to a cell
 abbrev pub Stores : Effect → List ℕ → Type 0

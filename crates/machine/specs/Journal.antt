@@ -4,13 +4,13 @@ use mathlib.Core.Bool.{Bool, true, false, not, _&&_, _||_}
 use mathlib.Core.List.{List, [], _∷_}
 use lib.Bits.{bitOr}
 use lib.Dec.{leb, ltb, eqb}
-use lib.ListN.{getD, set, take, drop, length}
+use lib.ListN.{getD, set, take, drop}
 use lib.Seq.{sets}
-use Rattle.machine.specs.declared.Settings.{Settings}
-use Rattle.machine.specs.declared.Write.{Write}
-use Rattle.machine.specs.declared.Store.{Store}
-use Rattle.machine.specs.declared.Effect.{Effect}
-use Rattle.machine.specs.State.{State, flagsBound, firstSpecial, pcOf}
+use Rattle.effect.specs.declared.Settings.{Settings}
+use Rattle.effect.specs.declared.Write.{Write}
+use Rattle.effect.specs.declared.Effect.{Effect}
+use Rattle.machine.specs.State.{State}
+use Rattle.effect.specs.Operands.{flagsBound, firstSpecial, pcOf}
 
 -- a write that is made if it is used
 abbrev pub writeIf : Bool → List ℕ → ℕ → ℕ → List ℕ

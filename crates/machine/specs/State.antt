@@ -1,10 +1,8 @@
 -- What can be seen of a machine with its cells and journal: document 01, 'The machine and its boundary'.
-use Prim.Native.Nat.{ℕ, _+_, _/_, _%_, min}
-use mathlib.Core.Bool.{cond}
+use Prim.Native.Nat.{ℕ, _/_, min}
 use mathlib.Core.List.{List}
-use lib.Dec.{eqb}
-use lib.ListN.{getD, replicate, length}
-use Rattle.machine.specs.declared.Settings.{Settings}
+use lib.ListN.{replicate, length}
+use Rattle.effect.specs.declared.Settings.{Settings}
 use Rattle.machine.specs.declared.Machine.{Machine}
 
 -- Registers 0 to 255 hold 32 bits; register 255 is PC. The host lends M cells of 32 bits and a journal of 32-bit words.
@@ -27,10 +25,6 @@ freshSettings = record { flags = 0; mask = 0; mode = 3 }
 unfoldable pub freshMachine : Machine
 freshMachine = record { regs = replicate 256 0; settings = freshSettings; depth = 0 }
 
--- flags and mask are below 512, and a journal entry packs them by that
-abbrev pub flagsBound : ℕ
-flagsBound = 512
-
 -- M, 1 to 16,384
 abbrev pub mostCells : ℕ
 mostCells = 16384
@@ -38,18 +32,3 @@ mostCells = 16384
 -- J is the lesser of 65,536 and the journal's length divided by 8, rounded down.
 unfoldable pub capacityOf : List ℕ → ℕ
 capacityOf journal = min 65536 (length journal / 8)
-
--- the first special address; a PC there or above is ended
-abbrev pub firstSpecial : ℕ
-firstSpecial = 0xFFFF0000
-
-abbrev pub pcOf : List ℕ → ℕ
-pcOf regs = getD regs 255 0
-
--- Fetch the cell at PC; PC becomes PC+1; then execute. Arithmetic is modulo 4,294,967,296.
-abbrev pub nextOf : List ℕ → ℕ
-nextOf regs = (pcOf regs + 1) % 4294967296
-
--- All operands are read before any write, and R255 then reads as PC+1.
-unfoldable pub operandOf : List ℕ → ℕ → ℕ
-operandOf regs i = cond (eqb i 255) (nextOf regs) (getD regs i 0)

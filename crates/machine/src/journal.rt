@@ -5,14 +5,15 @@ ghost use Prim.Native.Nat.{_+_, _*_, _≤_, _<_};
 ghost use lib.Dec.{leb};
 ghost use lib.ListN.{length, getD};
 ghost use lib.Seq.{sets};
-ghost use Rattle.machine.specs.State.{firstSpecial};
+ghost use Rattle.effect.specs.Operands.{firstSpecial};
 ghost use Rattle.machine.specs.Journal.{writeIf, ifUsed, regsAfter, settledOf, entryOf, applyOf};
-ghost use Rattle.machine.specs.Inner.{InRange, Stores, stateWith};
-use crate::Address;
-use crate::Effect;
-use crate::Settings;
-use crate::Store;
-use crate::Write;
+ghost use Rattle.effect.specs.Inner.{InRange};
+ghost use Rattle.machine.specs.Inner.{Stores, stateWith};
+use effect::Address;
+use effect::Effect;
+use effect::Settings;
+use effect::Store;
+use effect::Write;
 use word::Flag;
 
 // A register write that is made if it is used.

@@ -5,33 +5,15 @@ ghost use Rattle.machine.specs.State.{freshMachine, stateOf, capacityOf}
 ghost use Rattle.machine.specs.Calls.{checkOf, runFrom, backFrom, runOf, backOf};
 ghost use Rattle.machine.specs.Inner.{Ready, checkedOf, saidBy, outOf};
 
-mod effects;
-mod execute;
 mod journal;
 mod turn;
 mod undo;
 
+use effect::Settings;
 use turn::Verdict;
 use turn::advance;
 use undo::Returned;
 use undo::take_back;
-
-// The addresses from 0xFFFF0000 on that LDST knows. A PC there or above has ended.
-pub struct Address;
-
-impl Address {
-    pub const FLAGS: u32 = 0xFFFF0000;
-
-    pub const MASK: u32 = 0xFFFF0001;
-
-    pub const MODE: u32 = 0xFFFF0002;
-}
-
-pub struct Settings {
-    pub flags: u32,
-    pub mask: u32,
-    pub mode: u32,
-}
 
 pub struct Machine {
     pub regs: [u32; 256],
@@ -78,39 +60,6 @@ pub struct Ran {
     pub machine: Machine,
     pub stop: Stop,
     pub count: u64,
-}
-
-// A register that a step writes, where it is used.
-pub struct Write {
-    pub used: bool,
-    pub number: u8,
-    pub value: u32,
-}
-
-// A cell that a step stores to memory, where it is used.
-pub struct Store {
-    pub used: bool,
-    pub address: u32,
-    pub value: u32,
-}
-
-// What an instruction answers: to go on, or INT with its two values.
-pub enum Answer {
-    Onward,
-    Interrupt { value: u32, imm: u16 },
-}
-
-// What an instruction does: the next PC, at most two registers (b first if reversed), at most one cell, the settings, and the
-// flags that it wrote as 1.
-pub struct Effect {
-    pub pc: u32,
-    pub a: Write,
-    pub b: Write,
-    pub reversed: bool,
-    pub store: Store,
-    pub settings: Settings,
-    pub raised: u32,
-    pub answer: Answer,
 }
 
 // Whether a call can begin: it can, or stop 12, 10 or 11.

@@ -2,18 +2,18 @@
 ghost use mathlib.Core.Path.{_≡_};
 ghost use mathlib.Core.Bool.{cond};
 ghost use lib.Dec.{leb};
-ghost use Rattle.machine.specs.State.{firstSpecial};
+ghost use Rattle.effect.specs.Operands.{firstSpecial};
 ghost use Rattle.machine.specs.Calls.{plainly, stopped, answered, stepOf};
 ghost use Rattle.machine.specs.Inner.{Ready, stateWith, verdictOf};
-use crate::Address;
-use crate::Answer;
-use crate::Effect;
-use crate::Settings;
 use crate::Stop;
 use crate::capacity;
-use crate::execute::Considered;
-use crate::execute::consider;
 use crate::journal::carry_out;
+use effect::Address;
+use effect::Answer;
+use effect::Effect;
+use effect::Settings;
+use effect::execute::Considered;
+use effect::execute::consider;
 
 // What became of a step: done and going on, done and stopped, or refused with nothing done.
 pub enum Verdict {

@@ -4,11 +4,11 @@ ghost use Prim.Native.Nat.{_*_, _≤_, _<_};
 ghost use lib.ListN.{length, getD};
 ghost use Rattle.machine.specs.Journal.{lastOf, usesA, usesB, usesStore, damagedOf, regsBefore};
 ghost use Rattle.machine.specs.Inner.{stateWith, returnedOf, takenBack};
-use crate::Settings;
-use crate::Store;
-use crate::Write;
 use crate::journal::keep;
 use crate::journal::put;
+use effect::Settings;
+use effect::Store;
+use effect::Write;
 
 // The last entry's words.
 fn last(journal: &[u32], depth: u32) -> [u32; 8]

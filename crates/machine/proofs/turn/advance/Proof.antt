@@ -4,9 +4,11 @@ use mathlib.Core.Path.{_≡_, sym, _∙_}
 use lib.ListN.{length}
 use borrow.Author.Needs.{needs}
 use Rattle.machine.specs.State.{State}
-use Rattle.machine.specs.declared.execute.Considered.the-variants.{Does}
-use Rattle.machine.specs.Calls.{refusedBy, instructionOf, refusalOf}
-use Rattle.machine.specs.Inner.{stateWith, consideredOf}
+use Rattle.effect.specs.declared.execute.Considered.the-variants.{Does}
+use Rattle.effect.specs.Refusal.{refusedBy}
+use Rattle.machine.specs.Calls.{instructionOf, refusalOf}
+use Rattle.machine.specs.Inner.{stateWith}
+use Rattle.effect.specs.Inner.{consideredOf}
 use Rattle.machine.proofs.Steps.{refused-with, at-end, off-cells, full, room, looked-at, float, fault, safe-does, done-as}
 use Rattle.machine.proofs.turn.advance.Statement.{statement}
 use Rattle.machine.proofs.turn.advance.Tie as tie

@@ -7,9 +7,9 @@ use lib.Bits.{bitAnd}
 use lib.Dec.{leb}
 use borrow.Author.Tests.{lt-leb, le-leb, ne-eqb}
 use borrow.Author.Needs.{needs}
-use Rattle.machine.specs.declared.Effect.{Effect}
-use Rattle.machine.specs.declared.Answer.the-variants.{Onward, Interrupt}
-use Rattle.machine.specs.State.{firstSpecial}
+use Rattle.effect.specs.declared.Effect.{Effect}
+use Rattle.effect.specs.declared.Answer.the-variants.{Onward, Interrupt}
+use Rattle.effect.specs.Operands.{firstSpecial}
 use Rattle.machine.specs.Calls.{plainly, going, stopped, answered}
 use Rattle.machine.proofs.turn.verdict_of.Statement.{statement}
 use Rattle.machine.proofs.turn.verdict_of.Tie as tie

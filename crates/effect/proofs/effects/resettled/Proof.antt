@@ -1,0 +1,17 @@
+-- `effect::effects::resettled` meets its contract: the tests on the address pick the case.
+-- Assumes nothing.
+use borrow.Author.Tests.{ne-eqb}
+use Rattle.effect.proofs.effects.resettled.Statement.{statement}
+use Rattle.effect.proofs.effects.resettled.Tie as tie
+
+returns : tie.Need-returns
+returns c = rw (c .if1 .taken)
+
+returns-2 : tie.Need-returns-2
+returns-2 c = rw (c .if2 .taken)
+
+returns-3 : tie.Need-returns-3
+returns-3 c = rw (ne-eqb _ _ (c .before .if1 .left), ne-eqb _ _ (c .if2 .left))
+
+pub resettled-spec : {M : Type 1} → statement M
+resettled-spec = tie.close (tie.spec returns returns-2 returns-3)

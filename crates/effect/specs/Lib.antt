@@ -1,0 +1,4 @@
+pub mod Operands
+pub mod Effect
+pub mod Refusal
+pub mod Inner
