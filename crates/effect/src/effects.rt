@@ -243,10 +243,10 @@ fn illegal_store(p: u32, v: u32) -> bool
         return false;
     }
     if p == Address::MASK {
-        return 512 <= v;
+        return Settings::FLAGS_BOUND <= v;
     }
     if p == Address::MODE {
-        return 4 <= v;
+        return Settings::MODE_BOUND <= v;
     }
     true
 }

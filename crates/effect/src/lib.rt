@@ -20,6 +20,13 @@ pub struct Settings {
     pub mode: u32,
 }
 
+impl Settings {
+    // Flags and mask are below the first, the mode below the second.
+    pub const FLAGS_BOUND: u32 = 512;
+
+    pub const MODE_BOUND: u32 = 4;
+}
+
 // A register that a step writes, where it is used.
 pub struct Write {
     pub used: bool,

@@ -13,9 +13,10 @@ use Rattle.effect.specs.declared.Settings.{Settings}
 use Rattle.effect.specs.declared.Effect.{Effect}
 use Rattle.effect.specs.declared.Answer.{Answer}
 use Rattle.effect.specs.declared.Answer.the-variants.{Onward, Interrupt}
+use Rattle.machine.specs.declared.Ran.{Ran}
 use Rattle.machine.specs.declared.Stop.{Stop}
 use Rattle.machine.specs.declared.Stop.the-variants.{Done, Ended, Trap, Int, Fetch, Fault, Float, Full, Start, Damaged, Unsettled, Deep, Cells}
-use Rattle.machine.specs.State.{State, mostCells, capacityOf}
+use Rattle.machine.specs.State.{State, stateOf, mostCells, capacityOf}
 use Rattle.effect.specs.Operands.{flagsBound, pcOf}
 use Rattle.effect.specs.Effect.{effectOf, behindOf}
 use Rattle.machine.specs.Journal.{endedOf, regsAfter, applyOf, lastOf, damagedOf, undoOf}
@@ -90,11 +91,15 @@ moved none s = record { state = applyOf (effectIn s) s; course = courseOf (effec
 unfoldable pub stepOf : State → Moved
 stepOf s = moved (refusalOf s) s
 
--- All that a call leaves: machine, cells and journal, what it says, and the count done.
+-- All that a call leaves: machine, cells and journal, what it says, and the count done. A call's answer with the cells and journal
+-- that it left, as such.
 pub record Out : Type 0 where
   pub state : State
   pub said : Said
   pub count : ℕ
+
+abbrev pub outOf : Ran → List ℕ → List ℕ → Out
+outOf r cells journal = record { state = stateOf (r .machine) cells journal; said = saidOf (r .stop); count = r .count }
 
 abbrev pub stopAt : Said → ℕ → State → Out
 stopAt x k s = record { state = s; said = x; count = k }

@@ -9,16 +9,15 @@ use lib.ListN.{length}
 use Rattle.effect.specs.Inner.{InRange}
 use Rattle.effect.specs.declared.Settings.{Settings}
 use Rattle.effect.specs.declared.Effect.{Effect}
-use Rattle.machine.specs.declared.Ran.{Ran}
 use Rattle.machine.specs.declared.turn.Verdict.{Verdict}
 use Rattle.machine.specs.declared.turn.Verdict.the-variants.{Going, Stopped, Refused}
 use Rattle.machine.specs.declared.Checked.{Checked}
 use Rattle.machine.specs.declared.Checked.the-variants.{Fine, Bad}
-use Rattle.machine.specs.State.{State, stateOf, capacityOf}
+use Rattle.machine.specs.State.{State, capacityOf}
 use Rattle.machine.specs.declared.undo.Returned.{Returned}
 use Rattle.machine.specs.declared.undo.Returned.the-variants.{Back, Start, Damaged}
 use Rattle.machine.specs.Journal.{lastOf, damagedOf, undoOf}
-use Rattle.machine.specs.Calls.{Said, plainly, saidOf, Course, going, stopped, refused, Out}
+use Rattle.machine.specs.Calls.{Said, plainly, saidOf, Course, going, stopped, refused}
 
 -- a store is to a cell
 abbrev pub Stores : Effect → List ℕ → Type 0
@@ -64,7 +63,3 @@ saidBy (some k) = some (plainly k)
 pub record Ready (s : Settings) (depth : ℕ) (journal : List ℕ) : Type 0 where
   pub settled : InRange s
   pub room : depth ≤ capacityOf journal
-
--- all that a call leaves, from the code's answer
-abbrev pub outOf : Ran → List ℕ → List ℕ → Out
-outOf r cells journal = record { state = stateOf (r .machine) cells journal; said = saidOf (r .stop); count = r .count }

@@ -16,6 +16,11 @@ use effect::Store;
 use effect::Write;
 use word::Flag;
 
+// An entry's word 1 is flags + 512 mask + 2^18 mode, below 2^20.
+pub const MODE_UNIT: u32 = Settings::FLAGS_BOUND * Settings::FLAGS_BOUND;
+
+pub const PACKED_BOUND: u32 = MODE_UNIT * Settings::MODE_BOUND;
+
 // A register write that is made if it is used.
 pub fn put(regs: &mut [u32; 256], w: Write)
     ensures { λ r. ⌜ now (regs .exit) ≡ writeIf (w .used) (now (regs .entry)) (w .number) (w .value) ⌝ }
@@ -106,7 +111,7 @@ fn entry(regs: &[u32; 256], cells: &[u32], s: Settings, e: Effect) -> [u32; 8]
     let store = e.store;
     [
         regs[255],
-        s.flags + 512 * s.mask + 262144 * s.mode,
+        s.flags + Settings::FLAGS_BOUND * s.mask + MODE_UNIT * s.mode,
         number(a) + 256 * number(b),
         held(regs, a),
         held(regs, b),

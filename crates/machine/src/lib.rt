@@ -2,8 +2,8 @@
 ghost use mathlib.Core.Path.{_≡_};
 ghost use Prim.Native.Nat.{_≤_};
 ghost use Rattle.machine.specs.State.{freshMachine, stateOf, capacityOf};
-ghost use Rattle.machine.specs.Calls.{checkOf, runFrom, backFrom, runOf, backOf};
-ghost use Rattle.machine.specs.Inner.{Ready, checkedOf, saidBy, outOf};
+ghost use Rattle.machine.specs.Calls.{checkOf, outOf, runFrom, backFrom, runOf, backOf};
+ghost use Rattle.machine.specs.Inner.{Ready, checkedOf, saidBy};
 
 mod journal;
 mod turn;
@@ -22,6 +22,11 @@ pub struct Machine {
 }
 
 impl Machine {
+    // M is 1 to the first; J is at most the second.
+    pub const MOST_CELLS: usize = 16384;
+
+    pub const MOST_ENTRIES: u32 = 65536;
+
     // A fresh machine: all registers 0, flags 0, mask 0, rounding mode 3, depth 0.
     pub fn fresh() -> Self
         ensures { λ r. ⌜ r ≡ freshMachine ⌝ }
@@ -87,16 +92,16 @@ fn check(size: usize, s: Settings, most: u32, depth: u32) -> Checked
     if size == 0 {
         return Checked::Bad(Stop::Cells);
     }
-    if 16384 < size {
+    if Machine::MOST_CELLS < size {
         return Checked::Bad(Stop::Cells);
     }
-    if 512 <= s.flags {
+    if Settings::FLAGS_BOUND <= s.flags {
         return Checked::Bad(Stop::Unsettled);
     }
-    if 512 <= s.mask {
+    if Settings::FLAGS_BOUND <= s.mask {
         return Checked::Bad(Stop::Unsettled);
     }
-    if 4 <= s.mode {
+    if Settings::MODE_BOUND <= s.mode {
         return Checked::Bad(Stop::Unsettled);
     }
     if most < depth {

@@ -4,6 +4,8 @@ ghost use Prim.Native.Nat.{_*_, _≤_, _<_};
 ghost use lib.ListN.{length, getD};
 ghost use Rattle.machine.specs.Journal.{lastOf, usesA, usesB, usesStore, damagedOf, regsBefore};
 ghost use Rattle.machine.specs.Inner.{stateWith, returnedOf, takenBack};
+use crate::journal::MODE_UNIT;
+use crate::journal::PACKED_BOUND;
 use crate::journal::keep;
 use crate::journal::put;
 use effect::Settings;
@@ -53,7 +55,7 @@ fn is_damaged(m: usize, w: [u32; 8]) -> bool
     if m <= w[0] as usize {
         return true;
     }
-    if 1048576 <= w[1] {
+    if PACKED_BOUND <= w[1] {
         return true;
     }
     if 65536 <= w[2] {
@@ -127,8 +129,8 @@ pub fn take_back(
     };
     keep(cells, store);
     Returned::Back(Settings {
-        flags: w[1] % 512,
-        mask: w[1] / 512 % 512,
-        mode: w[1] / 262144,
+        flags: w[1] % Settings::FLAGS_BOUND,
+        mask: w[1] / Settings::FLAGS_BOUND % Settings::FLAGS_BOUND,
+        mode: w[1] / MODE_UNIT,
     })
 }
