@@ -7,3 +7,4 @@ pub mod Keeps
 pub mod Turns
 pub mod Checks
 pub mod Returns
+pub mod Entry

@@ -2,7 +2,7 @@
 -- Assumes nothing.
 use native.Mathlib.Omega.{arith}
 use borrow.Author.Needs.{needs}
-use Rattle.machine.proofs.Words.{byte-below, bytes-word}
+use Rattle.machine.proofs.Words.{byte-below, word}
 use Rattle.machine.proofs.journal.uses.Statement.{statement}
 use Rattle.machine.proofs.journal.uses.Tie as tie
 
@@ -28,7 +28,7 @@ add-result-2 : tie.Need-add-result-2
 add-result-2 c = omega (arith, byte-below (c .args .a), byte-below (c .args .b), byte-below (c .args .store))
 
 returns : tie.Need-returns
-returns c = bytes-word (c .args .a) (c .args .b) (c .args .store)
+returns c = word (c .args .a) (c .args .b) (c .args .store) .bytes
 
 pub uses-spec : {M : Type 1} → statement M
 uses-spec =
