@@ -1,2 +1,3 @@
 pub mod Pointers
 pub mod Safe
+pub mod Ranges

@@ -3,24 +3,23 @@
 -- the journal. (3) `outside`, `up-to`, `lengths`: the words outside the eight stand, the eight are the entry, and the lists keep their lengths.
 -- Assumes nothing.
 use Prim.Native.Nat.{ℕ, _+_, _-_, _*_, _/_, _%_, _≤_, _<_}
-use mathlib.Core.Path.{_≡_, refl, sym, ap, _∙_}
+use mathlib.Core.Path.{_≡_, refl, _∙_}
 use mathlib.Core.Logic.{_⊎_}
 use mathlib.Core.Bool.{Bool, true, false, not, _&&_, _||_}
 use mathlib.Core.List.{List, _++_}
 use native.Mathlib.Omega.{arith}
 use lib.ListN.{length, getD, set, take, drop, length-set}
-use lib.Seq.{sets, length-sets, length-take-le}
+use lib.Seq.{length-sets, length-take-le}
 use lib.Dec.{leb, ltb, eqb}
 use borrow.Author.Tests.{lt-leb, le-ltb, le-leb, lt-ltb}
-use Rattle.effect.specs.declared.Settings.{Settings}
 use Rattle.effect.specs.declared.Write.{Write}
 use Rattle.effect.specs.declared.Effect.{Effect}
 use Rattle.effect.specs.Operands.{flagsBound, pcOf}
 use Rattle.effect.specs.Inner.{InRange}
 use Rattle.machine.specs.State.{State}
-use Rattle.machine.specs.Journal.{ifUsed, writesIn, regsAfter, cellsAfter, entryOf, applyOf, lastOf, usesA, usesB, usesStore, damagedOf, regsBefore, cellsBefore, settingsBefore, undoOf}
+use Rattle.machine.specs.Journal.{ifUsed, writesIn, regsAfter, cellsAfter, entryOf, applyOf, lastOf, damagedOf, regsBefore, cellsBefore, settingsBefore, undoOf}
 use Rattle.machine.proofs.Lists.{length-writeIf, miss, mended, writeIf-ifUsed, ifUsed-lt, writeIf-back, take-sets, take-to-sets, read-sets, drop-sets, read-known, take-known, getD-outside}
-use Rattle.machine.proofs.Words.{wordOf, word}
+use Rattle.machine.proofs.Words.{word}
 
 -- an effect that an instruction can have on s: registers 0 to 255, a store to memory, and a cell that was fetched
 pub record Formed (e : Effect) (s : State) : Type 0 where

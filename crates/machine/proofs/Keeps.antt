@@ -1,26 +1,30 @@
--- What a step keeps: the number of cells and of journal words, settings in range, and depth at most J. A step that is done has passed
--- every test before it.
+-- What a step keeps: 256 registers below 2^32, settings in range, the number of cells and of journal words, depth at most J. A step that
+-- is done has passed every test before it, writes eight words and raises depth by one; one that is refused changes nothing.
 -- Assumes nothing.
-use Prim.Native.Nat.{ℕ, _*_, _<_}
-use mathlib.Core.Path.{_≡_, refl}
+use Prim.Native.Nat.{ℕ, _*_, _^_, _<_}
+use mathlib.Core.Path.{_≡_, refl, _∙_}
 use mathlib.Core.Bool.{Bool, true, false, cond}
 use mathlib.Core.List.{List}
 use mathlib.Core.Option.{Option, none, some}
 use native.Mathlib.Omega.{arith}
 use lib.Bits.{or-lt}
-use lib.Dec.{leb}
-use lib.ListN.{length}
-use lib.Seq.{sets, length-sets}
-use borrow.Author.Tests.{leb-false}
+use lib.Dec.{leb, ltb, eqb}
+use lib.ListN.{length, getD, set}
+use lib.Seq.{sets, length-sets, getD-set-same, getD-set-other, set-out}
+use borrow.Author.Tests.{leb-false, ltb-true, ltb-false, eqb-true, eqb-false}
 use Rattle.effect.specs.declared.Settings.{Settings}
 use Rattle.machine.specs.State.{State, capacityOf}
 use Rattle.effect.specs.Operands.{firstSpecial, pcOf}
-use Rattle.machine.specs.Journal.{settledOf, settingsAfter, regsAfter, entryOf, endedOf, applyOf}
+use Rattle.machine.specs.Journal.{writeIf, writesIn, settledOf, settingsAfter, cellsAfter, regsAfter, entryOf, endedOf, applyOf}
 use Rattle.machine.specs.Calls.{instructionOf, refusalOf, effectIn, moved, stepOf}
 use Rattle.effect.specs.Refusal.{refusedBy}
 use Rattle.effect.specs.Inner.{InRange}
 use Rattle.machine.specs.Inner.{Ready}
+use Rattle.cell.proofs.Fields.{decoded-in-range}
+use Rattle.effect.specs.declared.Write.{Write}
 use Rattle.effect.proofs.Safe.{Safe, safe}
+use Rattle.effect.proofs.Ranges.{Ranged, ranged, behind-below}
+use Rattle.machine.proofs.Entry.{Formed, length-regs, lengths}
 
 -- no test of a row stopped
 not-some : {k : ℕ} → some k ≡ none → ⊥
@@ -80,3 +84,72 @@ pub ready-kept : (s : State) → Ready (s .settings) (s .depth) (s .journal)
     → Ready (stepOf s .state .settings) (stepOf s .state .depth) (stepOf s .state .journal)
 unfolding stepOf
 ready-kept s r = ready-moved s (refusalOf s) refl r
+
+-- A list of 32-bit words stays one where a word is written.
+abbrev pub Words : List ℕ → Type 0
+Words l = (i : ℕ) → getD l i 0 < 2 ^ 32
+
+set-words : (l : List ℕ) (i v : ℕ) → Words l → v < 2 ^ 32 → Words (set l i v)
+set-words l i v w h j = at (eqb j i) refl (ltb i (length l)) refl
+  where
+    at : (t : Bool) → eqb j i ≡ t → (u : Bool) → ltb i (length l) ≡ u → getD (set l i v) j 0 < 2 ^ 32
+    at false q u r = rw (getD-set-other l i j v 0 (eqb-false j i q)) (w j)
+    at true q true r = rw (eqb-true j i q, getD-set-same l i v 0 (ltb-true i (length l) r)) h
+    at true q false r = rw (set-out l i v (ltb-false i (length l) r)) (w j)
+
+writeIf-words : (u : Bool) (l : List ℕ) (i v : ℕ) → Words l → v < 2 ^ 32 → Words (writeIf u l i v)
+writeIf-words true l i v w h = set-words l i v w h
+writeIf-words false l i v w h = w
+
+writes-words : (f : Bool) (a b : Write) (l : List ℕ) → Words l → a .value < 2 ^ 32 → b .value < 2 ^ 32 → Words (writesIn f a b l)
+writes-words true a b l w p q = writeIf-words (a .used) _ (a .number) (a .value) (writeIf-words (b .used) l (b .number) (b .value) w q) p
+writes-words false a b l w p q = writeIf-words (b .used) _ (b .number) (b .value) (writeIf-words (a .used) l (a .number) (a .value) w p) q
+
+-- What a call takes and leaves: 256 registers and M cells of 32 bits, settings in range, depth at most J.
+pub record Lawful (s : State) : Type 0 where
+  pub registers : length (s .regs) ≡ 256
+  pub words : Words (s .regs)
+  pub cells : Words (s .cells)
+  pub ready : Ready (s .settings) (s .depth) (s .journal)
+
+module _ (s : State) (l : Lawful s) where
+  ranged-in : Ranged (effectIn s)
+  unfolding effectIn
+  ranged-in =
+      ranged (s .regs) (l .words) (instructionOf s) (decoded-in-range _ (l .cells (pcOf (s .regs)))) (s .settings) _
+      (behind-below (s .regs) (l .words) (s .settings) (l .ready .settled) (s .cells) (l .cells) (instructionOf s))
+
+  -- the effect of a step that is done is one that going back undoes
+  pub formed-in : Clear s → Formed (effectIn s) s
+  formed-in c = record {
+    a = ranged-in .a .0;
+    b = ranged-in .b .0;
+    store = safe-in s (l .ready .settled) c .store;
+    fetched = c .within;
+  }
+
+  lawful-after : Clear s → Lawful (applyOf (effectIn s) s)
+  unfolding regsAfter cellsAfter
+  lawful-after c = record {
+    registers = length-regs (effectIn s) (s .regs) ∙ l .registers;
+    words = writes-words (effectIn s .reversed) (effectIn s .a) (effectIn s .b) _ (set-words (s .regs) 255 (effectIn s .pc) (l .words) (ranged-in .pc)) (ranged-in .a .1) (ranged-in .b .1);
+    cells = writeIf-words (effectIn s .store .used) (s .cells) (effectIn s .store .address) (effectIn s .store .value) (l .cells) (ranged-in .store);
+    ready = ready-after s (l .ready) c;
+  }
+
+  lawful-moved : (o : Option ℕ) → refusalOf s ≡ o → Lawful (moved o s .state)
+  lawful-moved (some k) e = l
+  lawful-moved none e = lawful-after (clear s e)
+
+  pub lawful-kept : Lawful (stepOf s .state)
+  unfolding stepOf
+  lawful-kept = lawful-moved (refusalOf s) refl
+
+-- the number of cells and of journal words, whatever the state
+lengths-moved : (s : State) (o : Option ℕ) → (length (moved o s .state .cells) ≡ length (s .cells)) × (length (moved o s .state .journal) ≡ length (s .journal))
+lengths-moved s (some k) = (refl, refl)
+lengths-moved s none = (lengths (effectIn s) s .1, lengths (effectIn s) s .2)
+
+pub lengths-kept : (s : State) → (length (stepOf s .state .cells) ≡ length (s .cells)) × (length (stepOf s .state .journal) ≡ length (s .journal))
+unfolding stepOf
+lengths-kept s = lengths-moved s (refusalOf s)

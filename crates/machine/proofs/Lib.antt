@@ -8,3 +8,4 @@ pub mod Turns
 pub mod Checks
 pub mod Returns
 pub mod Entry
+pub mod Counts
