@@ -1,4 +1,6 @@
--- What is decoded is in range: an opcode and registers below 256, an immediate below 65,536, a reserved cell below 2^32.
+-- What is decoded is of its opcode's form and in range: an opcode and registers below 256, an immediate below 65,536, a reserved
+-- cell below 2^32.
+use mathlib.Core.Path.{_≡_, refl}
 use Prim.Native.Nat.{ℕ, _^_, _<_}
 use native.Mathlib.Omega.{arith}
 use Rattle.cell.specs.declared.Form.{Form}
@@ -8,15 +10,15 @@ use Rattle.cell.specs.declared.Instruction.the-variants.{Registers, Imme
 use Rattle.cell.specs.Cell.{opcodeOf, formOf, readAs, decodeOf}
 
 abbrev pub InRange : Instruction → Type 0
-InRange (Registers x n m l) = (x < 256) × (n < 256) × (m < 256) × (l < 256)
-InRange (Immediate x n i) = (x < 256) × (n < 256) × (i < 65536)
-InRange (Reserved c) = c < 2 ^ 32
+InRange (Registers x n m l) = (formOf x ≡ form.Registers) × (x < 256) × (n < 256) × (m < 256) × (l < 256)
+InRange (Immediate x n i) = (formOf x ≡ form.Immediate) × (x < 256) × (n < 256) × (i < 65536)
+InRange (Reserved c) = (formOf (opcodeOf c) ≡ form.Reserved) × (c < 2 ^ 32)
 
-read-in-range : (f : Form) (c : ℕ) → c < 2 ^ 32 → InRange (readAs f c)
-read-in-range form.Registers c h = omega arith
-read-in-range form.Immediate c h = omega arith
-read-in-range form.Reserved c h = h
+read-in-range : (f : Form) (c : ℕ) → c < 2 ^ 32 → formOf (opcodeOf c) ≡ f → InRange (readAs f c)
+read-in-range form.Registers c h e = (e, omega arith, omega arith, omega arith, omega arith)
+read-in-range form.Immediate c h e = (e, omega arith, omega arith, omega arith)
+read-in-range form.Reserved c h e = (e, h)
 
 pub decoded-in-range : (c : ℕ) → c < 2 ^ 32 → InRange (decodeOf c)
 unfolding decodeOf
-decoded-in-range c h = read-in-range (formOf (opcodeOf c)) c h
+decoded-in-range c h = read-in-range (formOf (opcodeOf c)) c h refl

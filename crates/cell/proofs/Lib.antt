@@ -1,3 +1,4 @@
+pub mod Tests
 pub mod Opcodes
 pub mod Fields
 pub mod RoundTrip

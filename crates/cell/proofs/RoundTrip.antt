@@ -7,16 +7,15 @@ use native.Mathlib.Omega.{arith}
 use lib.Dec.{eqb}
 use Rattle.cell.specs.declared.Form.{Form}
 use Rattle.cell.specs.declared.Form.the-variants as form
-use Rattle.cell.specs.declared.Instruction.{Instruction}
 use Rattle.cell.specs.declared.Instruction.the-variants as instruction
-use Rattle.cell.specs.declared.Operands.{Operands}
 use Rattle.cell.specs.declared.Operands.the-variants as operands
 use Rattle.cell.specs.declared.Encoded.{Encoded}
 use Rattle.cell.specs.declared.Encoded.the-variants.{Cell, ReservedOpcode, OtherForm}
 use Rattle.cell.specs.Cell.{legal, immediate, formOf, opcodeOf, nOf, mOf, lOf, immOf, readAs, decodeOf, Said, saidOf, writeAs, encodeOf}
+use Rattle.cell.proofs.Tests.{never}
 
 -- number 0 and the cell
-abbrev made : ℕ → Said
+abbrev pub made : ℕ → Said
 made c = record { number = 0; cell = c }
 
 -- the answer that was said
@@ -30,9 +29,6 @@ heard-said OtherForm = refl
 
 pub said-once : (a b : Encoded) → saidOf a ≡ saidOf b → a ≡ b
 said-once a b e = sym (heard-said a) ∙ ap heard e ∙ heard-said b
-
-never : {P : Type 0} → _≡_ {A = ℕ} 0 1 → P
-never z = absurd (omega arith)
 
 -- encoding what was decoded
 module _ (c : ℕ) (h : c < 2 ^ 32) where
@@ -82,9 +78,9 @@ reserved-whole c {d} e =
     let r : (d ≡ c) × (formOf (opcodeOf c) ≡ form.Reserved) = reserved-read c (formOf (opcodeOf c)) refl e in
     (r .0, unlegal (legal (opcodeOf c)) (immediate (opcodeOf c)) (r .1))
 
--- decoding what was encoded
+-- decoding what was encoded, which is a cell of 32 bits
 module _ (x n : ℕ) (hx : x < 256) (hn : n < 256) where
-  registers-written : (f : Form) → formOf x ≡ f → {m l c : ℕ} → m < 256 → l < 256 → writeAs f x (operands.Registers n m l) ≡ made c → decodeOf c ≡ instruction.Registers x n m l
+  registers-written : (f : Form) → formOf x ≡ f → {m l c : ℕ} → m < 256 → l < 256 → writeAs f x (operands.Registers n m l) ≡ made c → (decodeOf c ≡ instruction.Registers x n m l) × (c < 2 ^ 32)
   unfolding decodeOf
   registers-written form.Registers e {m} {l} {c} hm hl w =
       let s : 16777216 * x + 65536 * n + 256 * m + l ≡ c = ap (λ (s : Said). s .cell) w in
@@ -92,11 +88,11 @@ module _ (x n : ℕ) (hx : x < 256) (hn : n < 256) where
       let en : nOf c ≡ n = omega arith in
       let em : mOf c ≡ m = omega arith in
       let el : lOf c ≡ l = omega arith in
-      simp (ex, e, en, em, el)
+      (simp (ex, e, en, em, el), omega arith)
   registers-written form.Immediate e hm hl w = never (cc (ap heard w))
   registers-written form.Reserved e hm hl w = never (cc (ap heard w))
 
-  immediate-written : (f : Form) → formOf x ≡ f → {i c : ℕ} → i < 65536 → writeAs f x (operands.Immediate n i) ≡ made c → decodeOf c ≡ instruction.Immediate x n i
+  immediate-written : (f : Form) → formOf x ≡ f → {i c : ℕ} → i < 65536 → writeAs f x (operands.Immediate n i) ≡ made c → (decodeOf c ≡ instruction.Immediate x n i) × (c < 2 ^ 32)
   unfolding decodeOf
   immediate-written form.Registers e hi w = never (cc (ap heard w))
   immediate-written form.Immediate e {i} {c} hi w =
@@ -104,13 +100,13 @@ module _ (x n : ℕ) (hx : x < 256) (hn : n < 256) where
       let ex : opcodeOf c ≡ x = omega arith in
       let en : nOf c ≡ n = omega arith in
       let ei : immOf c ≡ i = omega arith in
-      simp (ex, e, en, ei)
+      (simp (ex, e, en, ei), omega arith)
   immediate-written form.Reserved e hi w = never (cc (ap heard w))
 
-  pub decode-registers : {m l c : ℕ} → m < 256 → l < 256 → encodeOf x (operands.Registers n m l) ≡ made c → decodeOf c ≡ instruction.Registers x n m l
+  pub decode-registers : {m l c : ℕ} → m < 256 → l < 256 → encodeOf x (operands.Registers n m l) ≡ made c → (decodeOf c ≡ instruction.Registers x n m l) × (c < 2 ^ 32)
   unfolding encodeOf
   decode-registers hm hl w = registers-written (formOf x) refl hm hl w
 
-  pub decode-immediate : {i c : ℕ} → i < 65536 → encodeOf x (operands.Immediate n i) ≡ made c → decodeOf c ≡ instruction.Immediate x n i
+  pub decode-immediate : {i c : ℕ} → i < 65536 → encodeOf x (operands.Immediate n i) ≡ made c → (decodeOf c ≡ instruction.Immediate x n i) × (c < 2 ^ 32)
   unfolding encodeOf
   decode-immediate hi w = immediate-written (formOf x) refl hi w

@@ -112,8 +112,8 @@ module _ (regs : List ℕ) (words : (i : ℕ) → Word (getD regs i 0)) where
   pub ranged : (i : Instruction) → fields.InRange i → (s : Settings) (v : ℕ) → Word v → Ranged (effectOf i regs s v)
   unfolding effectOf
   ranged (Registers x n m l) f s v v-fits =
-      registers s _ next-below x n m l _ _ _ v (f .1) (f .2) (f .3) (operand-below n) (operand-below m) (operand-below l) v-fits
-  ranged (Immediate x n imm) f s v v-fits = immediate s _ next-below x n imm _ (f .1) (f .2) (operand-below n)
+      registers s _ next-below x n m l _ _ _ v (f .2) (f .3) (f .4) (operand-below n) (operand-below m) (operand-below l) v-fits
+  ranged (Immediate x n imm) f s v v-fits = immediate s _ next-below x n imm _ (f .2) (f .3) (operand-below n)
   ranged (Reserved c) f s v v-fits = illegal s _ next-below
 
   -- the value behind a load pointer

@@ -8,7 +8,7 @@ use mathlib.Core.List.{List}
 use native.Mathlib.Omega.{arith}
 use lib.Dec.{leb, ltb, eqb}
 use lib.ListN.{length}
-use borrow.Author.Tests.{leb-false, ltb-false, eqb-false}
+use borrow.Author.Tests.{leb-false, ltb-false, eqb-false, lt-leb, le-ltb, ne-eqb}
 use Rattle.effect.specs.declared.Settings.{Settings}
 use Rattle.machine.specs.State.{State, mostCells, capacityOf}
 use Rattle.effect.specs.Operands.{flagsBound}
@@ -72,3 +72,16 @@ checked m s j depth h =
 pub as-told : (r v : Checked) (m : ℕ) (s : Settings) (j depth : ℕ) (journal : List ℕ) → j ≡ capacityOf journal → r ≡ v → checkedOf r ≡ saidBy (checkOf m s j depth)
     → checkedOf v ≡ saidBy (checkOf m s (capacityOf journal) depth)
 as-told r v m s j depth journal e p h = rw (← e, ← p) h
+
+-- a call on M cells from 1 to 16,384, settings in range and depth at most J is not refused at once
+pub passes : (m : ℕ) (s : Settings) (j depth : ℕ) → Passed m s j depth → checkOf m s j depth ≡ none
+unfolding checkOf
+passes m s j depth p =
+    rw (
+      ne-eqb m 0 (λ e. omega (arith, p .some-cells)),
+      le-ltb mostCells m (p .few-cells),
+      lt-leb flagsBound (s .flags) (p .settled .flags),
+      lt-leb flagsBound (s .mask) (p .settled .mask),
+      lt-leb 4 (s .mode) (p .settled .mode),
+      le-ltb j depth (p .room),
+    )

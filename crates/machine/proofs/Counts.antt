@@ -34,12 +34,16 @@ end-done : (t : Bool) (c : Course) → done c ≡ 1 → done (cond t (stopped (p
 end-done true c h = refl
 end-done false c h = h
 
-moved-done : (s : State) (o : Option ℕ) → moved o s .state .depth ≡ s .depth + done (moved o s .course)
+-- a step that is not refused is done
+pub course-done : (s : State) → done (courseOf (effectIn s) (s .regs)) ≡ 1
 unfolding courseOf
-moved-done s (some k) = omega arith
-moved-done s none =
+course-done s =
     let e = effectIn s in
-    rw (end-done (endedOf (regsAfter e (s .regs))) (answered (e .answer) e) (answer-done (e .answer) e))
+    end-done (endedOf (regsAfter e (s .regs))) (answered (e .answer) e) (answer-done (e .answer) e)
+
+moved-done : (s : State) (o : Option ℕ) → moved o s .state .depth ≡ s .depth + done (moved o s .course)
+moved-done s (some k) = omega arith
+moved-done s none = rw (course-done s)
 
 pub step-done : (s : State) → stepOf s .state .depth ≡ s .depth + done (stepOf s .course)
 unfolding stepOf
@@ -47,13 +51,8 @@ step-done s = moved-done s (refusalOf s)
 
 -- a refused step leaves registers, settings, depth, cells and journal as they were
 moved-refused : (s : State) (o : Option ℕ) (x : Said) → moved o s .course ≡ refused x → moved o s .state ≡ s
-unfolding courseOf
 moved-refused s (some k) x h = refl
-moved-refused s none x h =
-    let e = effectIn s in
-    let one = end-done (endedOf (regsAfter e (s .regs))) (answered (e .answer) e) (answer-done (e .answer) e) in
-    let z : _≡_ {A = ℕ} 0 1 = sym (ap done h) ∙ one in
-    absurd (omega arith)
+moved-refused s none x h = let z : _≡_ {A = ℕ} 0 1 = sym (ap done h) ∙ course-done s in absurd (omega arith)
 
 pub step-refused : (s : State) (x : Said) → stepOf s .course ≡ refused x → stepOf s .state ≡ s
 unfolding stepOf

@@ -128,7 +128,7 @@ module _ (s : State) (l : Lawful s) where
     fetched = c .within;
   }
 
-  lawful-after : Clear s → Lawful (applyOf (effectIn s) s)
+  pub lawful-after : Clear s → Lawful (applyOf (effectIn s) s)
   unfolding regsAfter cellsAfter
   lawful-after c = record {
     registers = length-regs (effectIn s) (s .regs) ∙ l .registers;

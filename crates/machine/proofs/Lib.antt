@@ -9,3 +9,4 @@ pub mod Checks
 pub mod Returns
 pub mod Entry
 pub mod Counts
+pub mod Named

@@ -1,12 +1,12 @@
 // Carrying an effect out, and the journal entry that it leaves.
 ghost use mathlib.Core.Path.{_≡_};
-ghost use mathlib.Core.Bool.{true};
+ghost use mathlib.Core.Bool.{true, false};
 ghost use Prim.Native.Nat.{_+_, _*_, _≤_, _<_};
 ghost use lib.Dec.{leb};
 ghost use lib.ListN.{length, getD};
 ghost use lib.Seq.{sets};
 ghost use Rattle.effect.specs.Operands.{firstSpecial};
-ghost use Rattle.machine.specs.Journal.{writeIf, ifUsed, regsAfter, settledOf, entryOf, applyOf};
+ghost use Rattle.machine.specs.Journal.{writeIf, writesIn, ifUsed, regsAfter, settledOf, entryOf, applyOf};
 ghost use Rattle.effect.specs.Inner.{InRange};
 ghost use Rattle.machine.specs.Inner.{Stores, stateWith};
 use effect::Address;
@@ -22,7 +22,7 @@ pub const MODE_UNIT: u32 = Settings::FLAGS_BOUND * Settings::FLAGS_BOUND;
 pub const PACKED_BOUND: u32 = MODE_UNIT * Settings::MODE_BOUND;
 
 // A register write that is made if it is used.
-pub fn put(regs: &mut [u32; 256], w: Write)
+fn put(regs: &mut [u32; 256], w: Write)
     ensures { λ r. ⌜ now (regs .exit) ≡ writeIf (w .used) (now (regs .entry)) (w .number) (w .value) ⌝ }
 {
     if w.used {
@@ -42,6 +42,14 @@ pub fn keep(cells: &mut [u32], s: Store)
     }
 }
 
+// Two such writes, one after the other.
+pub fn put_both(regs: &mut [u32; 256], first: Write, second: Write)
+    ensures { λ r. ⌜ now (regs .exit) ≡ writesIn false first second (now (regs .entry)) ⌝ }
+{
+    put(regs, first);
+    put(regs, second);
+}
+
 // PC, then the two registers in the effect's order.
 fn write_regs(regs: &mut [u32; 256], e: Effect)
     ensures { λ r. ⌜ now (regs .exit) ≡ regsAfter e (now (regs .entry)) ⌝ }
@@ -50,11 +58,9 @@ fn write_regs(regs: &mut [u32; 256], e: Effect)
     let a = e.a;
     let b = e.b;
     if e.reversed {
-        put(regs, b);
-        put(regs, a);
+        put_both(regs, b, a);
     } else {
-        put(regs, a);
-        put(regs, b);
+        put_both(regs, a, b);
     }
 }
 

@@ -159,15 +159,15 @@ fn back_on(m: Machine, cells: &mut [u32], journal: &[u32], number: u64) -> Ran
     let mut regs = m.regs;
     let mut settings = m.settings;
     let mut depth = m.depth;
-    let mut done: u64 = 0;
+    let mut undone: u64 = 0;
     let mut stop = Stop::Done;
-    while done < number {
+    while undone < number {
         let returned = take_back(&mut regs, settings, depth, cells, journal);
         match returned {
             Returned::Back(before) => {
                 settings = before;
                 depth = depth - 1;
-                done = done + 1;
+                undone = undone + 1;
             }
             Returned::Start => {
                 stop = Stop::Start;
@@ -186,7 +186,7 @@ fn back_on(m: Machine, cells: &mut [u32], journal: &[u32], number: u64) -> Ran
             depth,
         },
         stop,
-        count: done,
+        count: undone,
     }
 }
 

@@ -7,7 +7,7 @@ ghost use Rattle.machine.specs.Inner.{stateWith, returnedOf, takenBack};
 use crate::journal::MODE_UNIT;
 use crate::journal::PACKED_BOUND;
 use crate::journal::keep;
-use crate::journal::put;
+use crate::journal::put_both;
 use effect::Settings;
 use effect::Store;
 use effect::Write;
@@ -90,8 +90,7 @@ fn restore_regs(regs: &mut [u32; 256], w: [u32; 8])
         number: (w[2] / 256) as u8,
         value: w[4],
     };
-    put(regs, a);
-    put(regs, b);
+    put_both(regs, a, b);
     regs[255] = w[0];
 }
 

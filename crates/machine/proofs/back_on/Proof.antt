@@ -13,12 +13,12 @@ use Rattle.machine.proofs.back_on.Statement.{statement}
 use Rattle.machine.proofs.back_on.Tie as tie
 
 abbrev Inv-loop : tie.InvT-loop
-Inv-loop cells₀ journal number regs₀ settings₀ depth₀ done₀ stop₀ cells regs settings depth done stop =
-    (stop ≡ Done) × Returning number (stateWith regs₀ settings₀ depth₀ cells₀ journal) (stateWith regs settings depth cells journal) done
+Inv-loop cells₀ journal number regs₀ settings₀ depth₀ undone₀ stop₀ cells regs settings depth undone stop =
+    (stop ≡ Done) × Returning number (stateWith regs₀ settings₀ depth₀ cells₀ journal) (stateWith regs settings depth cells journal) undone
 
 abbrev μ-loop : tie.MeasureT-loop
-μ-loop cells₀ journal number regs₀ settings₀ depth₀ done₀ stop₀ cells regs settings depth done stop =
-    number - done
+μ-loop cells₀ journal number regs₀ settings₀ depth₀ undone₀ stop₀ cells regs settings depth undone stop =
+    number - undone
 
 loop-holds : tie.Need-loop-holds Inv-loop μ-loop
 loop-holds c = (refl, turn-round _ _ (c .before .before .before .before .pre))
@@ -33,8 +33,8 @@ sub-depth : tie.Need-sub-depth Inv-loop μ-loop
 sub-depth c = let told : c .before .before .before .before .before .take-back .result ≡ Back (c .before .returned .given .0 .0) = search needs in
     deep _ _ (as-told _ _ _ _ _ _ _ _ told (c .before .before .before .before .before .take-back .ensures)) refl
 
-add-done : tie.Need-add-done Inv-loop μ-loop
-add-done c = omega arith
+add-undone : tie.Need-add-undone Inv-loop μ-loop
+add-undone c = omega arith
 
 loop-less : tie.Need-loop-less Inv-loop μ-loop
 loop-less c = omega arith
@@ -81,7 +81,7 @@ back-on-spec =
     take-back-requires
     enum-known-returned
     sub-depth
-    add-done
+    add-undone
     loop-less
     loop-again
     enum-told

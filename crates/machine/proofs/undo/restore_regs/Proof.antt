@@ -35,11 +35,8 @@ cast-t14-2 c = search needs
 array-read-t12-2 : tie.Need-array-read-t12-2
 array-read-t12-2 c = search needs
 
-put-requires : tie.Need-put-requires
-put-requires c κs = search needs
-
-put-requires-2 : tie.Need-put-requires-2
-put-requires-2 c κs = search needs
+put-both-requires : tie.Need-put-both-requires
+put-both-requires c κs = search needs
 
 array-read-regs : tie.Need-array-read-regs
 array-read-regs c = search needs
@@ -49,7 +46,7 @@ element-write-regs c = search needs
 
 returns : tie.Need-returns
 unfolding regsBefore
-returns c = rw (c .put2 .ensures, c .before .before .put .ensures, c .before .before .before .before .uses-b .ensures, c .before .before .before .before .before .uses-a .ensures)
+returns c = rw (c .put-both .ensures, c .before .before .uses-b .ensures, c .before .before .before .uses-a .ensures)
 
 pub restore-regs-spec : {M : Type 1} → statement M
 restore-regs-spec =
@@ -65,8 +62,7 @@ restore-regs-spec =
     array-read-t9
     cast-t14-2
     array-read-t12-2
-    put-requires
-    put-requires-2
+    put-both-requires
     array-read-regs
     element-write-regs
     returns)

@@ -1,0 +1,63 @@
+-- Load a job, then step forward and back in any sequence of calls.
+use Prim.Native.Nat.{ℕ, zero, suc, _+_, _-_, _≤_}
+use mathlib.Core.Path.{_≡_}
+use mathlib.Core.List.{List, [], _∷_}
+use Rattle.effect.specs.declared.Settings.{Settings}
+use Rattle.machine.specs.State.{State}
+use Rattle.machine.specs.Calls.{Said, plainly, stepOf, Out, runOf, backOf}
+
+-- A call: a step, a run of a budget, or back by a number.
+pub data Call : Type 0 where
+  Step : Call
+  Run : ℕ → Call
+  Back : ℕ → Call
+
+-- A machine with its cells and journal, and how many steps were done forward and back.
+pub record Trip : Type 0 where
+  pub state : State
+  pub ahead : ℕ
+  pub behind : ℕ
+
+abbrev pub setOut : State → Trip
+setOut s = record { state = s; ahead = 0; behind = 0 }
+
+-- what a call that went forward, or back, makes of the trip: its count is the steps done
+abbrev pub forward : Out → Trip → Trip
+forward o w = record { state = o .state; ahead = w .ahead + o .count; behind = w .behind }
+
+abbrev pub backward : Out → Trip → Trip
+backward o w = record { state = o .state; ahead = w .ahead; behind = w .behind + o .count }
+
+abbrev pub call : Call → Trip → Trip
+call Step w = forward (runOf 1 (w .state)) w
+call (Run n) w = forward (runOf n (w .state)) w
+call (Back n) w = backward (backOf n (w .state)) w
+
+-- each call is given the machine the last one left, with the same cells and journal
+unfoldable pub travel : List Call → Trip → Trip
+travel [] w = w
+travel (c ∷ cs) w = travel cs (call c w)
+
+-- n steps of the definition
+unfoldable pub steps : ℕ → State → State
+steps zero s = s
+steps (suc n) s = stepOf (steps n s) .state
+
+-- registers, settings and cells
+pub record Seen : Type 0 where
+  pub regs : List ℕ
+  pub settings : Settings
+  pub cells : List ℕ
+
+abbrev pub seen : State → Seen
+seen s = record { regs = s .regs; settings = s .settings; cells = s .cells }
+
+-- Where a trip from s, at depth 0, has come to: with f steps forward and b back, registers, settings and cells are exactly those that f minus
+-- b steps of the definition reach from s, each of them done; a single step back is refused exactly when f = b.
+pub record Arrived (s : State) (w : Trip) : Type 0 where
+  pub fewer : w .behind ≤ w .ahead
+  pub sight : seen (w .state) ≡ seen (steps (w .ahead - w .behind) s)
+  pub depth : w .state .depth ≡ w .ahead - w .behind
+  pub taken : steps (w .ahead - w .behind) s .depth ≡ w .ahead - w .behind
+  pub refused : w .ahead ≡ w .behind → backOf 1 (w .state) .said ≡ plainly 8
+  pub only : backOf 1 (w .state) .said ≡ plainly 8 → w .ahead ≡ w .behind

@@ -1,0 +1,9 @@
+pub mod Pieces
+pub mod Stores
+pub mod Decimal
+pub mod Words
+pub mod Sizes
+pub mod Numbers
+pub mod Search
+pub mod Answers
+pub mod Lines
