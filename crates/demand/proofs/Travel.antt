@@ -23,6 +23,10 @@ use Rattle.machine.proofs.Counts.{done, course-done}
 use Rattle.machine.proofs.Checks.{passes}
 use Rattle.demand.specs.Journey.{Call, Step, Run, Back, Trip, setOut, forward, backward, call, travel, steps, seen, Arrived}
 
+-- the check of a call on s
+abbrev check : State → Option ℕ
+check s = checkOf (length (s .cells)) (s .settings) (capacityOf (s .journal)) (s .depth)
+
 module _ (s₀ : State) (lawful₀ : Lawful s₀) (empty : s₀ .depth ≡ 0) where
   -- n steps, each of them done
   data Trace : ℕ → State → Type 0 where
@@ -194,9 +198,9 @@ module _ (s₀ : State) (lawful₀ : Lawful s₀) (empty : s₀ .depth ≡ 0) wh
   At w = Reached (w .state) (w .ahead) (w .behind)
 
   calls : (c : Call) (w : Trip) → At w → At (call c w)
-  calls Step w r = called-forward _ 1 (w .ahead) (w .behind) (w .state) r
-  calls (Run n) w r = called-forward _ n (w .ahead) (w .behind) (w .state) r
-  calls (Back n) w r = called-back _ n (w .ahead) (w .behind) (w .state) r
+  calls Step w r = called-forward (check (w .state)) 1 (w .ahead) (w .behind) (w .state) r
+  calls (Run n) w r = called-forward (check (w .state)) n (w .ahead) (w .behind) (w .state) r
+  calls (Back n) w r = called-back (check (w .state)) n (w .ahead) (w .behind) (w .state) r
 
   travels : (cs : List Call) (w : Trip) → At w → At (travel cs w)
   unfolding travel
@@ -209,11 +213,7 @@ module _ (s₀ : State) (lawful₀ : Lawful s₀) (empty : s₀ .depth ≡ 0) wh
 
   module _ (some-cells : 1 ≤ length (s₀ .cells)) (few-cells : length (s₀ .cells) ≤ mostCells) where
     -- no call on a state that was reached is refused at once
-    check : State → Option ℕ
-    check s = checkOf (length (s .cells)) (s .settings) (capacityOf (s .journal)) (s .depth)
-
     fine : (s : State) (f b : ℕ) → Reached s f b → check s ≡ none
-    unfolding check
     fine s f b r =
         let t = r .there in
         let l = trace-lawful (r .trace) in
@@ -227,7 +227,6 @@ module _ (s₀ : State) (lawful₀ : Lawful s₀) (empty : s₀ .depth ≡ 0) wh
 
     -- a single step back
     single : (s : State) (f b : ℕ) → Reached s f b → backOf 1 s ≡ backFrom 1 0 s
-    unfolding check
     single s f b r = rw (fine s f b r)
 
     at-start : (s : State) → s .depth ≡ 0 → backFrom 1 0 s .said ≡ plainly 8
