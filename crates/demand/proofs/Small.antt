@@ -1,0 +1,18 @@
+-- The twelve small cases, by computation over the whole table.
+-- Assumes nothing.
+use mathlib.Core.Path.{_≡_, refl}
+use mathlib.Core.Bool.{true}
+use Rattle.word.specs.Word.{seOf, exOf, writtenOf, opOf, askedOf}
+use Rattle.cell.specs.Cell.{legal, immediate, formOf, decodeOf}
+use Rattle.line.specs.Line.{digits, decimal, mnemonics, wordOf, lineOf}
+use Rattle.effect.specs.Operands.{operandOf}
+use Rattle.effect.specs.Effect.{flagsOf, operationOf, loadOf, ldstOf, bzOf, registersOf, immediateOf, effectOf, behindOf}
+use Rattle.effect.specs.Refusal.{refusedBy}
+use Rattle.machine.specs.State.{capacityOf}
+use Rattle.machine.specs.Journal.{regsAfter, cellsAfter, settingsAfter, entryOf}
+use Rattle.machine.specs.Calls.{refusalOf, effectIn, courseOf, stepOf, runFrom, checkOf}
+use Rattle.demand.specs.Cases.{cases, holds, all}
+
+pub small-cases : all holds cases ≡ true
+unfolding all cases holds seOf exOf writtenOf opOf askedOf legal immediate formOf decodeOf digits decimal mnemonics wordOf lineOf operandOf flagsOf operationOf loadOf ldstOf bzOf registersOf immediateOf effectOf behindOf refusedBy capacityOf regsAfter cellsAfter settingsAfter entryOf refusalOf effectIn courseOf stepOf runFrom checkOf
+small-cases = refl
