@@ -1,2 +1,3 @@
 pub mod Small
 pub mod Travel
+pub mod Repeat

@@ -1,7 +1,7 @@
 -- Calls forward and back, in any order: the machine is where as many steps forward as were done and not undone take it.
 -- The proof follows the definition's steps and opens no opcode.
 -- Assumes nothing.
-use Prim.Native.Nat.{ℕ, zero, suc, _+_, _-_, _*_, _≤_, _<_}
+use Prim.Native.Nat.{ℕ, zero, suc, _+_, _-_, _*_, _≤_}
 use mathlib.Core.Path.{_≡_, refl, sym, ap, _∙_}
 use mathlib.Core.Bool.{Bool, true, false, cond}
 use mathlib.Core.Option.{Option, none, some}
@@ -14,14 +14,13 @@ use borrow.Author.Tests.{eq-eqb, ne-eqb, eqb-true, eqb-false}
 use Rattle.effect.specs.declared.Effect.{Effect}
 use Rattle.machine.specs.State.{State, mostCells, capacityOf}
 use Rattle.machine.specs.Journal.{applyOf, lastOf, damagedOf, undoOf}
-use Rattle.machine.specs.Calls.{Said, plainly, Course, going, stopped, refused, effectIn, refusalOf, courseOf, moved, stepOf, Out, stopAt, onward, runFrom, backFrom, checkOf, called, runOf, backOf}
-use Rattle.machine.specs.Inner.{Ready}
+use Rattle.machine.specs.Calls.{Said, plainly, Course, going, stopped, refused, effectIn, refusalOf, moved, stepOf, Out, stopAt, onward, runFrom, backFrom, checkOf, called, backOf}
 use Rattle.machine.proofs.Steps.{room}
-use Rattle.machine.proofs.Keeps.{Clear, clear, Lawful, formed-in, lawful-after}
-use Rattle.machine.proofs.Entry.{Room, withJournal, written, intact-with, undo-with, up-to, last-known, earlier-known, lengths}
+use Rattle.machine.proofs.Keeps.{clear, Lawful, formed-in, lawful-after}
+use Rattle.machine.proofs.Entry.{Room, withJournal, intact-with, undo-with, up-to, last-known, earlier-known, lengths}
 use Rattle.machine.proofs.Counts.{done, course-done}
 use Rattle.machine.proofs.Checks.{passes}
-use Rattle.demand.specs.Journey.{Call, Step, Run, Back, Trip, setOut, forward, backward, call, travel, steps, seen, Arrived}
+use Rattle.demand.specs.Journey.{Call, Step, Run, Back, Trip, setOut, forward, call, travel, steps, seen, Arrived}
 
 -- the check of a call on s
 abbrev check : State → Option ℕ
