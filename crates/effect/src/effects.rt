@@ -27,7 +27,7 @@ const NO_STORE: Store = Store {
 };
 
 // PC moves, and nothing more.
-pub fn still(pc: u32, s: Settings) -> Effect
+pub(crate) fn still(pc: u32, s: Settings) -> Effect
     ensures { λ r. ⌜ r ≡ stillOf pc s ⌝ }
 {
     Effect {
@@ -43,7 +43,7 @@ pub fn still(pc: u32, s: Settings) -> Effect
 }
 
 // Register n gets v.
-pub fn writes(n: u8, v: u32, pc: u32, s: Settings) -> Effect
+pub(crate) fn writes(n: u8, v: u32, pc: u32, s: Settings) -> Effect
     ensures { λ r. ⌜ r ≡ writesOf n v pc s ⌝ }
 {
     Effect {
@@ -63,7 +63,7 @@ pub fn writes(n: u8, v: u32, pc: u32, s: Settings) -> Effect
 }
 
 // A reserved opcode or an illegal LDST: flag 128.
-pub fn illegal(pc: u32, s: Settings) -> Effect
+pub(crate) fn illegal(pc: u32, s: Settings) -> Effect
     ensures { λ r. ⌜ r ≡ illegalOf pc s ⌝ }
 {
     Effect {
@@ -83,7 +83,7 @@ pub fn illegal(pc: u32, s: Settings) -> Effect
 }
 
 // CPSWP: old Rn to Rl, then old Rm to Rn.
-pub fn cpswp(n: u8, l: u8, rn: u32, rm: u32, pc: u32, s: Settings) -> Effect
+pub(crate) fn cpswp(n: u8, l: u8, rn: u32, rm: u32, pc: u32, s: Settings) -> Effect
     ensures { λ r. ⌜ r ≡ cpswpOf n l rn rm pc s ⌝ }
 {
     Effect {
@@ -131,7 +131,7 @@ fn halves(m: u8, l: u8, low: u32, high: u32, pc: u32, s: Settings) -> Effect
 }
 
 // SPLIT: the halves of Rn, sign-extended.
-pub fn split(m: u8, l: u8, rn: u32, pc: u32, s: Settings) -> Effect
+pub(crate) fn split(m: u8, l: u8, rn: u32, pc: u32, s: Settings) -> Effect
     ensures { λ r. ⌜ r ≡ splitOf seOf m l rn pc s ⌝ }
 {
     let low = word::se((rn % 65536) as u16);
@@ -140,7 +140,7 @@ pub fn split(m: u8, l: u8, rn: u32, pc: u32, s: Settings) -> Effect
 }
 
 // FSPLIT: the halves of Rn, expanded.
-pub fn fsplit(m: u8, l: u8, rn: u32, pc: u32, s: Settings) -> Effect
+pub(crate) fn fsplit(m: u8, l: u8, rn: u32, pc: u32, s: Settings) -> Effect
     ensures { λ r. ⌜ r ≡ splitOf exOf m l rn pc s ⌝ }
 {
     let low = word::ex((rn % 65536) as u16);
@@ -173,7 +173,7 @@ fn operated(w: Written, n: u8, pc: u32, s: Settings) -> Effect
 }
 
 // Opcodes 16 to 53, on the operand values m and l.
-pub fn operation(opcode: u8, n: u8, m: u32, l: u32, rn: u32, pc: u32, s: Settings) -> Effect
+pub(crate) fn operation(opcode: u8, n: u8, m: u32, l: u32, rn: u32, pc: u32, s: Settings) -> Effect
     ensures { λ r. ⌜ r ≡ operationOf (askedOf opcode) n m l rn pc s ⌝ }
 {
     let asked = word::operation(opcode);
@@ -252,7 +252,7 @@ fn illegal_store(p: u32, v: u32) -> bool
 }
 
 // LDST: store old Rn at Rm, load from Rl; nothing of it is done if either is illegal.
-pub fn ldst(n: u8, rn: u32, rm: u32, rl: u32, behind: u32, pc: u32, s: Settings) -> Effect
+pub(crate) fn ldst(n: u8, rn: u32, rm: u32, rl: u32, behind: u32, pc: u32, s: Settings) -> Effect
     ensures { λ r. ⌜ r ≡ ldstOf n rn rm rl behind pc s ⌝ }
 {
     if Address::MODE < rl {
@@ -274,7 +274,7 @@ pub fn ldst(n: u8, rn: u32, rm: u32, rl: u32, behind: u32, pc: u32, s: Settings)
 }
 
 // BZ: if Rn is 0, PC gains se(imm).
-pub fn bz(rn: u32, imm: u16, pc: u32, s: Settings) -> Effect
+pub(crate) fn bz(rn: u32, imm: u16, pc: u32, s: Settings) -> Effect
     ensures { λ r. ⌜ r ≡ bzOf rn imm pc s ⌝ }
 {
     if rn == 0 {
@@ -284,7 +284,7 @@ pub fn bz(rn: u32, imm: u16, pc: u32, s: Settings) -> Effect
 }
 
 // INT: the answer carries Rn's value and imm.
-pub fn int(rn: u32, imm: u16, pc: u32, s: Settings) -> Effect
+pub(crate) fn int(rn: u32, imm: u16, pc: u32, s: Settings) -> Effect
     ensures { λ r. ⌜ r ≡ intOf rn imm pc s ⌝ }
 {
     Effect {

@@ -17,9 +17,9 @@ use effect::Write;
 use word::Flag;
 
 // An entry's word 1 is flags + 512 mask + 2^18 mode, below 2^20.
-pub const MODE_UNIT: u32 = Settings::FLAGS_BOUND * Settings::FLAGS_BOUND;
+pub(crate) const MODE_UNIT: u32 = Settings::FLAGS_BOUND * Settings::FLAGS_BOUND;
 
-pub const PACKED_BOUND: u32 = MODE_UNIT * Settings::MODE_BOUND;
+pub(crate) const PACKED_BOUND: u32 = MODE_UNIT * Settings::MODE_BOUND;
 
 // A register write that is made if it is used.
 fn put(regs: &mut [u32; 256], w: Write)
@@ -32,7 +32,7 @@ fn put(regs: &mut [u32; 256], w: Write)
 }
 
 // The same for a cell.
-pub fn keep(cells: &mut [u32], s: Store)
+pub(crate) fn keep(cells: &mut [u32], s: Store)
     requires { ⌜ (s .used ≡ true → s .address < length (now cells)) ⌝ }
     ensures { λ r. ⌜ now (cells .exit) ≡ writeIf (s .used) (now (cells .entry)) (s .address) (s .value) ⌝ }
 {
@@ -43,7 +43,7 @@ pub fn keep(cells: &mut [u32], s: Store)
 }
 
 // Two such writes, one after the other.
-pub fn put_both(regs: &mut [u32; 256], first: Write, second: Write)
+pub(crate) fn put_both(regs: &mut [u32; 256], first: Write, second: Write)
     ensures { λ r. ⌜ now (regs .exit) ≡ writesIn false first second (now (regs .entry)) ⌝ }
 {
     put(regs, first);
@@ -166,7 +166,7 @@ fn settle(pc: u32, s: Settings) -> Settings
 }
 
 // An effect is carried out: the one place that writes registers, cell and journal. It answers the settings.
-pub fn carry_out(
+pub(crate) fn carry_out(
     regs: &mut [u32; 256],
     s: Settings,
     depth: u32,

@@ -68,7 +68,7 @@ pub struct Ran {
 }
 
 // Whether a call can begin: it can, or stop 12, 10 or 11.
-pub enum Checked {
+enum Checked {
     Fine,
     Bad(Stop),
 }

@@ -16,14 +16,14 @@ use effect::execute::Considered;
 use effect::execute::consider;
 
 // What became of a step: done and going on, done and stopped, or refused with nothing done.
-pub enum Verdict {
+pub(crate) enum Verdict {
     Going,
     Stopped(Stop),
     Refused(Stop),
 }
 
 // What a step leaves beside registers, cells and journal.
-pub struct Advanced {
+pub(crate) struct Advanced {
     pub settings: Settings,
     pub depth: u32,
     pub verdict: Verdict,
@@ -62,7 +62,7 @@ fn verdict_of(pc: u32, e: Effect) -> Verdict
 }
 
 // One step, done or refused.
-pub fn advance(
+pub(crate) fn advance(
     regs: &mut [u32; 256],
     s: Settings,
     depth: u32,

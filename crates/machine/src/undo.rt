@@ -95,14 +95,14 @@ fn restore_regs(regs: &mut [u32; 256], w: [u32; 8])
 }
 
 // What going back one step answers: the settings, stop 8, or stop 9.
-pub enum Returned {
+pub(crate) enum Returned {
     Back(Settings),
     Start,
     Damaged,
 }
 
 // The last step is taken back. The journal is not written.
-pub fn take_back(
+pub(crate) fn take_back(
     regs: &mut [u32; 256],
     s: Settings,
     depth: u32,

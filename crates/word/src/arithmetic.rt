@@ -8,7 +8,7 @@ use crate::signed::bits_of;
 use crate::signed::signed_of;
 
 // The sum modulo 2^32, with carry and overflow.
-pub fn sum(m: u32, l: u32, carry: u32) -> Written
+pub(crate) fn sum(m: u32, l: u32, carry: u32) -> Written
     requires { ⌜ carry < 2 ⌝ }
     ensures { λ r. ⌜ r ≡ sumOf (m + l + carry) ⌝ }
 {
@@ -30,7 +30,7 @@ pub fn sum(m: u32, l: u32, carry: u32) -> Written
 }
 
 // The difference modulo 2^32, with borrow and overflow read from the whole amount taken away.
-pub fn difference(m: u32, l: u32, borrow: u32) -> Written
+pub(crate) fn difference(m: u32, l: u32, borrow: u32) -> Written
     requires { ⌜ borrow < 2 ⌝ }
     ensures { λ r. ⌜ r ≡ differenceOf m (l + borrow) ⌝ }
 {
@@ -52,7 +52,7 @@ pub fn difference(m: u32, l: u32, borrow: u32) -> Written
 }
 
 // The product modulo 2^32, with overflow.
-pub fn product(m: u32, l: u32) -> Written
+pub(crate) fn product(m: u32, l: u32) -> Written
     ensures { λ r. ⌜ r ≡ productOf (m * l) ⌝ }
 {
     let whole = m as u64 * l as u64;
@@ -73,7 +73,7 @@ pub fn product(m: u32, l: u32) -> Written
 }
 
 // The unsigned quotient; by zero n is kept.
-pub fn unsigned_quotient(m: u32, l: u32, n: u32) -> Written
+pub(crate) fn unsigned_quotient(m: u32, l: u32, n: u32) -> Written
     ensures { λ r. ⌜ r ≡ udivOf m l n ⌝ }
 {
     let governed = Flag::DIVIDE_BY_ZERO;
@@ -92,7 +92,7 @@ pub fn unsigned_quotient(m: u32, l: u32, n: u32) -> Written
 }
 
 // The unsigned remainder; by zero n is kept.
-pub fn remainder(m: u32, l: u32, n: u32) -> Written
+pub(crate) fn remainder(m: u32, l: u32, n: u32) -> Written
     ensures { λ r. ⌜ r ≡ modOf m l n ⌝ }
 {
     let governed = Flag::DIVIDE_BY_ZERO;
@@ -111,7 +111,7 @@ pub fn remainder(m: u32, l: u32, n: u32) -> Written
 }
 
 // The signed quotient, cut toward zero; by zero n is kept. The least number by -1 is the one quotient that 32 bits do not hold.
-pub fn signed_quotient(m: u32, l: u32, n: u32) -> Written
+pub(crate) fn signed_quotient(m: u32, l: u32, n: u32) -> Written
     ensures { λ r. ⌜ r ≡ sdivOf m l n ⌝ }
 {
     let governed = Flag::DIVIDE_BY_ZERO + Flag::OVERFLOW;

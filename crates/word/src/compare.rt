@@ -7,7 +7,7 @@ ghost use Rattle.word.specs.Word.{truth, signed};
 use crate::signed::signed_of;
 
 // 1 if either operand is 0, else 0.
-pub fn either_zero(m: u32, l: u32) -> u32
+pub(crate) fn either_zero(m: u32, l: u32) -> u32
     ensures { λ r. ⌜ r ≡ truth (eqb m 0 || eqb l 0) ⌝ }
 {
     if m == 0 {
@@ -17,14 +17,14 @@ pub fn either_zero(m: u32, l: u32) -> u32
 }
 
 // Whether m is greater than l.
-pub fn greater(m: u32, l: u32) -> u32
+pub(crate) fn greater(m: u32, l: u32) -> u32
     ensures { λ r. ⌜ r ≡ truth (ltb l m) ⌝ }
 {
     if l < m { 1 } else { 0 }
 }
 
 // Whether m is greater than l, both read as signed.
-pub fn signed_greater(m: u32, l: u32) -> u32
+pub(crate) fn signed_greater(m: u32, l: u32) -> u32
     ensures { λ r. ⌜ r ≡ truth (ltZ (signed l) (signed m)) ⌝ }
 {
     let a = signed_of(m);
@@ -33,7 +33,7 @@ pub fn signed_greater(m: u32, l: u32) -> u32
 }
 
 // Whether m is l.
-pub fn equal(m: u32, l: u32) -> u32
+pub(crate) fn equal(m: u32, l: u32) -> u32
     ensures { λ r. ⌜ r ≡ truth (eqb m l) ⌝ }
 {
     if m == l { 1 } else { 0 }

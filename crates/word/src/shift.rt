@@ -7,7 +7,7 @@ use crate::signed::bits_of;
 use crate::signed::signed_of;
 
 // To the left; above 31 nothing is left.
-pub fn left(m: u32, l: u32) -> Written
+pub(crate) fn left(m: u32, l: u32) -> Written
     ensures { λ r. ⌜ r ≡ shiftOf lshBy overflow m l ⌝ }
 {
     let governed = Flag::OVERFLOW;
@@ -26,7 +26,7 @@ pub fn left(m: u32, l: u32) -> Written
 }
 
 // To the right; above 31 nothing is left.
-pub fn right(m: u32, l: u32) -> Written
+pub(crate) fn right(m: u32, l: u32) -> Written
     ensures { λ r. ⌜ r ≡ shiftOf urshBy underflow m l ⌝ }
 {
     let governed = Flag::UNDERFLOW;
@@ -45,7 +45,7 @@ pub fn right(m: u32, l: u32) -> Written
 }
 
 // To the right as a signed number; above 31 all bits are the sign bit.
-pub fn signed_right(m: u32, l: u32) -> Written
+pub(crate) fn signed_right(m: u32, l: u32) -> Written
     ensures { λ r. ⌜ r ≡ shiftOf srshBy underflow m l ⌝ }
 {
     let governed = Flag::UNDERFLOW;

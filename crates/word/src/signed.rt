@@ -3,7 +3,7 @@ ghost use mathlib.Core.Path.{_≡_};
 ghost use Rattle.word.specs.Word.{signed, bits};
 
 // The signed number that 32 bits are.
-pub fn signed_of(x: u32) -> i32
+pub(crate) fn signed_of(x: u32) -> i32
     ensures { λ r. ⌜ r ≡ signed x ⌝ }
 {
     if x < 2147483648 {
@@ -14,7 +14,7 @@ pub fn signed_of(x: u32) -> i32
 }
 
 // The 32 bits of a signed number.
-pub fn bits_of(z: i32) -> u32
+pub(crate) fn bits_of(z: i32) -> u32
     ensures { λ r. ⌜ r ≡ bits z ⌝ }
 {
     if z < 0 {

@@ -1,0 +1,244 @@
+//! What a single instruction does.
+
+use crate::machine::*;
+
+const FLAGS_CELL: u32 = 0xFFFF_0000;
+const MASK_CELL: u32 = 0xFFFF_0001;
+const MODE_CELL: u32 = 0xFFFF_0002;
+
+/// The flags an instruction governs, and those among them that it writes as 1.
+#[derive(Default)]
+struct Written {
+    governed: u32,
+    raised: u32,
+}
+
+impl Written {
+    fn write(&mut self, flags: u32, one: bool) {
+        self.governed |= flags;
+        if one {
+            self.raised |= flags;
+        }
+    }
+}
+
+/// What a step leaves to be undone: the registers it writes and the cell it stores to.
+#[derive(Default)]
+struct Touched {
+    a: Option<u8>,
+    b: Option<u8>,
+    cell: Option<u32>,
+}
+
+/// The 16-bit float's fields, each put at its place in 32 bits; no value is special.
+pub fn ex(half: u16) -> u32 {
+    let half = half as u32;
+    let exponent = half >> 10 & 31;
+    let exponent = if exponent >= 16 { exponent | 0xE0 } else { exponent };
+    (half >> 15) << 31 | exponent << 23 | (half & 0x3FF) << 13
+}
+
+fn se(half: u16) -> u32 {
+    half as i16 as i32 as u32
+}
+
+/// Opcodes 16 to 34 on two words. No result means that the register stays as it is.
+fn arithmetic(opcode: u8, x: u32, y: u32, flags: u32, written: &mut Written) -> Option<u32> {
+    let carry = if opcode == 17 && flags & CARRY != 0 { 1u64 } else { 0 };
+    let borrow = if opcode == 19 && flags & BORROW != 0 { 1u64 } else { 0 };
+    let (signed_x, signed_y) = (x as i32, y as i32);
+    let result = match opcode {
+        16 | 17 => {
+            let sum = x as u64 + y as u64 + carry;
+            written.write(CARRY | OVERFLOW, sum >= 1 << 32);
+            sum as u32
+        }
+        18 | 19 => {
+            let taken = y as u64 + borrow;
+            written.write(BORROW | OVERFLOW, (x as u64) < taken);
+            x.wrapping_sub(taken as u32)
+        }
+        20 => {
+            let product = x as u64 * y as u64;
+            written.write(OVERFLOW, product >= 1 << 32);
+            product as u32
+        }
+        21..=23 => {
+            written.write(DIVIDE_BY_ZERO, y == 0);
+            if opcode == 22 {
+                written.write(OVERFLOW, signed_x == i32::MIN && signed_y == -1);
+            }
+            if y == 0 {
+                return None;
+            }
+            match opcode {
+                21 => x / y,
+                22 => signed_x.wrapping_div(signed_y) as u32,
+                _ => x % y,
+            }
+        }
+        24 => x & y,
+        25 => x | y,
+        26 => x ^ y,
+        27 => !(x & y),
+        28 => (x == 0 || y == 0) as u32,
+        29 => {
+            written.write(OVERFLOW, y > 31);
+            if y > 31 {
+                0
+            } else {
+                x << y
+            }
+        }
+        30 => {
+            written.write(UNDERFLOW, y > 31);
+            if y > 31 {
+                0
+            } else {
+                x >> y
+            }
+        }
+        31 => {
+            written.write(UNDERFLOW, y > 31);
+            (signed_x >> y.min(31)) as u32
+        }
+        32 => (x > y) as u32,
+        33 => (signed_x > signed_y) as u32,
+        34 => (x == y) as u32,
+        _ => unreachable!("opcode {opcode} is no arithmetic"),
+    };
+    Some(result)
+}
+
+impl Runner {
+    /// LDST at an address that is neither a cell nor special. Asked before the step is begun.
+    pub fn faults(&self, cell: u32) -> bool {
+        let [opcode, _, m, l] = cell.to_be_bytes();
+        let next = self.machine.registers[PC] + 1;
+        let outside = |register: u8| {
+            let pointer = if register as usize == PC { next } else { self.machine.registers[register as usize] };
+            pointer as usize >= self.cells.len() && pointer < END
+        };
+        opcode == 1 && (outside(m) || outside(l))
+    }
+
+    /// Does the step, writes its journal entry, and answers the flags that it wrote as 1.
+    /// The caller has seen to it that the step can be done.
+    pub fn execute(&mut self, cell: u32) -> u32 {
+        let before = self.machine.clone();
+        self.machine.registers[PC] = before.registers[PC].wrapping_add(1);
+        // All operands are taken from here, however the registers are written below.
+        let r = self.machine.registers;
+        let [opcode, n, m, l] = cell.to_be_bytes();
+        let imm = cell as u16;
+        let (rn, rm, rl) = (r[n as usize], r[m as usize], r[l as usize]);
+
+        let mut written = Written::default();
+        let mut touched = Touched::default();
+        let mut old_cell = 0;
+        match opcode {
+            0 => {
+                touched.a = Some(n);
+                touched.b = Some(l);
+                self.machine.registers[l as usize] = rn;
+                self.machine.registers[n as usize] = rm;
+            }
+            1 => {
+                if illegal_transfer(rl, rm, rn) {
+                    written.write(ILLEGAL, true);
+                } else {
+                    let loaded = match rl {
+                        0 => None,
+                        FLAGS_CELL => Some(before.flags),
+                        MASK_CELL => Some(before.mask),
+                        MODE_CELL => Some(before.mode),
+                        address => Some(self.cells[address as usize]),
+                    };
+                    match rm {
+                        0 => {}
+                        MASK_CELL => self.machine.mask = rn,
+                        MODE_CELL => self.machine.mode = rn,
+                        address => {
+                            touched.cell = Some(address);
+                            old_cell = self.cells[address as usize];
+                            self.cells[address as usize] = rn;
+                        }
+                    }
+                    if let Some(value) = loaded {
+                        touched.a = Some(n);
+                        self.machine.registers[n as usize] = value;
+                    }
+                }
+            }
+            3..=7 | 16..=53 => {
+                touched.a = Some(n);
+                let flags = before.flags;
+                let result = match opcode {
+                    3 => Some(rn & 0xFFFF_0000 | imm as u32),
+                    4 => Some(rn & 0x0000_FFFF | (imm as u32) << 16),
+                    5 => Some(imm as u32),
+                    6 => Some(se(imm)),
+                    7 => Some(ex(imm)),
+                    16..=34 => arithmetic(opcode, rm, rl, flags, &mut written),
+                    35..=45 => arithmetic(opcode - 19, rn, se(imm), flags, &mut written),
+                    46..=51 => arithmetic(opcode - 17, rn, se(imm), flags, &mut written),
+                    52 => Some((se(imm) > rn) as u32),
+                    _ => Some((se(imm) as i32 > rn as i32) as u32),
+                };
+                if let Some(value) = result {
+                    self.machine.registers[n as usize] = value;
+                }
+            }
+            54 | 107 => {
+                touched.a = Some(m);
+                touched.b = Some(l);
+                let widen = if opcode == 54 { se } else { ex };
+                self.machine.registers[m as usize] = widen(rn as u16);
+                self.machine.registers[l as usize] = widen((rn >> 16) as u16);
+            }
+            121 => {
+                if rn == 0 {
+                    self.machine.registers[PC] = r[PC].wrapping_add(se(imm));
+                }
+            }
+            122 => {}
+            _ => written.write(ILLEGAL, true),
+        }
+        self.machine.flags = self.machine.flags & !written.governed | written.raised;
+        self.note(&before, &touched, old_cell);
+        written.raised
+    }
+
+    fn note(&mut self, before: &Machine, touched: &Touched, old_cell: u32) {
+        let a = touched.a.unwrap_or(0) as usize;
+        let b = touched.b.unwrap_or(0) as usize;
+        let mut entry = [0; ENTRY_WORDS];
+        entry[0] = before.registers[PC];
+        entry[1] = before.flags | before.mask << 9 | before.mode << 18;
+        entry[2] = (a + 256 * b) as u32;
+        if touched.a.is_some() {
+            entry[3] = before.registers[a];
+            entry[7] |= USES_A;
+        }
+        if touched.b.is_some() {
+            entry[4] = before.registers[b];
+            entry[7] |= USES_B;
+        }
+        if let Some(address) = touched.cell {
+            entry[5] = address;
+            entry[6] = old_cell;
+            entry[7] |= STORES;
+        }
+        let at = before.depth as usize * ENTRY_WORDS;
+        self.journal[at..at + ENTRY_WORDS].copy_from_slice(&entry);
+        self.machine.depth += 1;
+    }
+}
+
+fn illegal_transfer(load: u32, store: u32, value: u32) -> bool {
+    load > MODE_CELL
+        || store > MODE_CELL
+        || store == FLAGS_CELL
+        || store == MASK_CELL && value > HIGHEST_FLAGS
+        || store == MODE_CELL && value > HIGHEST_MODE
+}

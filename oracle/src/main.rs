@@ -1,0 +1,91 @@
+//! A second chip32 runner, and the trials that compare it with another one.
+
+mod cell;
+mod execute;
+mod generate;
+mod generate_calls;
+mod generate_instructions;
+mod generate_jobs;
+mod generate_lines;
+mod generate_stops;
+mod job;
+mod line;
+mod machine;
+mod random;
+mod setup;
+mod table;
+#[cfg(test)]
+mod tests;
+mod trial;
+
+use std::io::{self, Read, Write};
+use std::process::ExitCode;
+
+const USAGE: &str = "oracle generate SEED COUNT | answer | table | runjob";
+
+fn main() -> ExitCode {
+    let arguments: Vec<String> = std::env::args().skip(1).collect();
+    let arguments: Vec<&str> = arguments.iter().map(String::as_str).collect();
+    let done = match arguments.as_slice() {
+        ["generate", seed, count] => generate(seed, count),
+        ["answer"] => answer(),
+        ["table"] => table(),
+        ["runjob"] => runjob(),
+        _ => Err(USAGE.to_string()),
+    };
+    match done {
+        Ok(()) => ExitCode::SUCCESS,
+        Err(message) => {
+            eprintln!("{message}");
+            ExitCode::FAILURE
+        }
+    }
+}
+
+fn input() -> Result<Vec<u8>, String> {
+    let mut bytes = Vec::new();
+    io::stdin().read_to_end(&mut bytes).map_err(|error| error.to_string())?;
+    Ok(bytes)
+}
+
+fn output(bytes: &[u8]) -> Result<(), String> {
+    io::stdout().write_all(bytes).map_err(|error| error.to_string())
+}
+
+fn generate(seed: &str, count: &str) -> Result<(), String> {
+    let seed = seed.parse().map_err(|_| USAGE)?;
+    let count = count.parse().map_err(|_| USAGE)?;
+    output(&generate::trials(seed, count))
+}
+
+/// Every trial's answer, in order, with the table of what occurred.
+fn answers(file: &[u8]) -> Result<(String, table::Tally), String> {
+    let mut tally = table::Tally::new();
+    let mut text = String::new();
+    for (number, (kind, payload)) in trial::split(file)?.into_iter().enumerate() {
+        text += &format!("trial {number} kind {kind}\n");
+        text += &trial::answer(kind, payload, &mut tally).map_err(|error| format!("trial {number}: {error}"))?;
+    }
+    Ok((text, tally))
+}
+
+fn answer() -> Result<(), String> {
+    let (text, _) = answers(&input()?)?;
+    output(text.as_bytes())
+}
+
+fn table() -> Result<(), String> {
+    let (_, tally) = answers(&input()?)?;
+    let (text, missing) = tally.text();
+    output(text.as_bytes())?;
+    if missing.is_empty() {
+        Ok(())
+    } else {
+        Err(format!("missing {}:\n{}", missing.len(), missing.join("\n")))
+    }
+}
+
+fn runjob() -> Result<(), String> {
+    let (text, _) = job::runjob(&input()?);
+    output(text.as_bytes())
+}

@@ -1,0 +1,81 @@
+//! A trial of calls under construction: the machine, cells and journal before, and the calls.
+
+use crate::generate::Trials;
+use crate::machine::{ENTRY_WORDS, PC};
+use crate::random::Random;
+use crate::trial::CALLS;
+
+pub struct Setup {
+    pub m: u32,
+    pub words: u32,
+    pub flags: u32,
+    pub mask: u32,
+    pub mode: u32,
+    pub depth: u32,
+    pub registers: Vec<(u8, u32)>,
+    pub cells: Vec<(u32, u32)>,
+    pub journal: Vec<(u32, u32)>,
+    pub calls: Vec<(u8, u64)>,
+}
+
+impl Setup {
+    /// A fresh machine before its first call.
+    pub fn new(m: u32, words: u32) -> Setup {
+        Setup {
+            m,
+            words,
+            flags: 0,
+            mask: 0,
+            mode: 3,
+            depth: 0,
+            registers: Vec::new(),
+            cells: Vec::new(),
+            journal: Vec::new(),
+            calls: Vec::new(),
+        }
+    }
+
+    /// Sets the cells from this address on, as far as there are any.
+    pub fn place(&mut self, at: u32, content: &[u32]) {
+        for (address, cell) in (at..self.m).zip(content) {
+            self.cells.push((address, *cell));
+        }
+    }
+
+    pub fn pc(&mut self, pc: u32) {
+        self.registers.push((PC as u8, pc));
+    }
+
+    /// Leaves something in the words that steps will write, and in those that they will not.
+    pub fn litter(&mut self, random: &mut Random) {
+        let from = self.depth.saturating_mul(ENTRY_WORDS as u32);
+        for word in from..self.words.min(from.saturating_add(20)) {
+            self.journal.push((word, random.bits()));
+        }
+    }
+
+    pub fn add_to(&self, trials: &mut Trials) {
+        let mut payload = Vec::new();
+        for word in [self.m, self.words, self.flags, self.mask, self.mode, self.depth] {
+            payload.extend(word.to_le_bytes());
+        }
+        payload.extend((self.registers.len() as u16).to_le_bytes());
+        for (register, value) in &self.registers {
+            payload.push(*register);
+            payload.extend(value.to_le_bytes());
+        }
+        for list in [&self.cells, &self.journal] {
+            payload.extend((list.len() as u16).to_le_bytes());
+            for (place, value) in list {
+                payload.extend(place.to_le_bytes());
+                payload.extend(value.to_le_bytes());
+            }
+        }
+        payload.extend((self.calls.len() as u16).to_le_bytes());
+        for (call, number) in &self.calls {
+            payload.push(*call);
+            payload.extend(number.to_le_bytes());
+        }
+        trials.add(CALLS, &payload);
+    }
+}
