@@ -1,3 +1,4 @@
 pub mod Small
 pub mod Travel
 pub mod Repeat
+pub mod Once
