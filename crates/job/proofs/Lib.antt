@@ -1,0 +1,5 @@
+pub mod Numbers
+pub mod Rules
+pub mod Walk
+pub mod Words
+pub mod Loading

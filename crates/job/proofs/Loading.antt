@@ -1,0 +1,47 @@
+-- What the checks of a load make of it.
+-- Assumes nothing.
+use Prim.Native.Nat.{ℕ}
+use mathlib.Core.Path.{_≡_, refl, sym, ap, _∙_}
+use mathlib.Core.Bool.{Bool, true, false, not}
+use mathlib.Core.Option.{Option, none, some}
+use mathlib.Core.List.{List}
+use native.Mathlib.Omega.{arith}
+use lib.ListN.{length}
+use Rattle.machine.specs.declared.Machine.{Machine}
+use Rattle.machine.specs.State.{freshMachine}
+use Rattle.machine.specs.Calls.{badCells}
+use Rattle.job.specs.declared.Refusal.{Refusal}
+use Rattle.job.specs.declared.Answer.{Answer}
+use Rattle.job.specs.declared.Answer.the-variants.{Done, Refused}
+use Rattle.job.specs.Job.{nothingYet, Said, refusalFrom, Content, contentFrom, unnamed, saidOf, loadWith, loadedWith, refusalIn, loadOf}
+use Rattle.job.specs.Inner.{refusalOf}
+
+-- a test that was made the other way round
+pub turned : (t b : Bool) (r : Bool) → r ≡ not t → not r ≡ b → t ≡ b
+turned true b r e h = rw e at h
+turned false b r e h = rw e at h
+
+unfolded : (job cells : List ℕ) → badCells (length cells) ≡ false → refusalIn (length cells) job ≡ refusalFrom (length job) (length cells) job 0 nothingYet
+unfolding refusalIn
+unfolded job cells h = rw h
+
+module _ (job cells : List ℕ) where
+  pub load-few : (m : Machine) → m ≡ freshMachine → badCells (length cells) ≡ true
+      → record { machine = m; cells = cells; said = record { number = 12; offset = 0 } } ≡ loadOf job cells
+  unfolding refusalIn
+  load-few m e h = rw (h, e)
+
+  pub none-refused : (answer : Answer) → answer ≡ Done → refusalOf answer ≡ refusalFrom (length job) (length cells) job 0 nothingYet
+      → refusalFrom (length job) (length cells) job 0 nothingYet ≡ none
+  none-refused answer t e = sym e ∙ ap refusalOf t
+
+  pub load-refused : (m : Machine) (answer : Answer) (why : Refusal) (offset : ℕ) → m ≡ freshMachine → badCells (length cells) ≡ false → answer ≡ Refused why offset
+      → refusalOf answer ≡ refusalFrom (length job) (length cells) job 0 nothingYet
+      → record { machine = m; cells = cells; said = saidOf answer } ≡ loadOf job cells
+  load-refused m answer why offset f h t e =
+      let s : refusalFrom (length job) (length cells) job 0 nothingYet ≡ refusalOf (Refused why offset) = sym e ∙ ap refusalOf t in
+      rw (unfolded job cells h, s, f, t)
+
+  pub load-done : (c : Content) → badCells (length cells) ≡ false → refusalFrom (length job) (length cells) job 0 nothingYet ≡ none
+      → c ≡ contentFrom (length job) job (unnamed (length cells)) → loadedWith c ≡ loadOf job cells
+  load-done c h e p = rw (unfolded job cells h, e, p)

@@ -1,0 +1,111 @@
+-- Little-endian numbers over the width: one byte more, their bound, and that they are read as they were written.
+-- Assumes nothing.
+use Prim.Native.Nat.{ℕ, zero, suc, _+_, _-_, _*_, _/_, _%_, _^_, _≤_, _<_}
+use mathlib.Core.Path.{_≡_, refl, sym, ap, _∙_}
+use mathlib.Core.List.{List, [], _∷_, _++_}
+use native.Mathlib.Nat.{add-zero, sub-zero}
+use native.Mathlib.Omega.{arith}
+use lib.ListN.{length, getD, set, take, drop}
+use lib.Seq.{sets, drop-cons}
+use Rattle.job.specs.Job.{littleOf, bytesOf, numberAt}
+
+-- a list of bytes, and its parts
+abbrev pub Bytes : List ℕ → Type 0
+Bytes l = (i : ℕ) → getD l i 0 < 256
+
+pub bytes-drop : (n : ℕ) (l : List ℕ) → Bytes l → Bytes (drop n l)
+bytes-drop zero l b = b
+bytes-drop (suc n) [] b = b
+bytes-drop (suc n) (x ∷ l) b = bytes-drop n l (λ i. b (suc i))
+
+pub bytes-take : (n : ℕ) (l : List ℕ) → Bytes l → Bytes (take n l)
+bytes-take zero l b i = omega arith
+bytes-take (suc n) [] b i = omega arith
+bytes-take (suc n) (x ∷ l) b zero = b 0
+bytes-take (suc n) (x ∷ l) b (suc i) = bytes-take n l (λ i. b (suc i)) i
+
+-- A number of w bytes is below 256 to the power of w.
+unfoldable bound : ℕ → ℕ
+bound zero = 1
+bound (suc w) = 256 * bound w
+
+bound-pos : (w : ℕ) → 0 < bound w
+unfolding bound
+bound-pos zero = omega arith
+bound-pos (suc w) = omega (arith, bound-pos w)
+
+little-below : (w : ℕ) (l : List ℕ) → Bytes l → littleOf (take w l) < bound w
+unfolding littleOf bound
+little-below zero l b = omega arith
+little-below (suc w) [] b = omega (arith, bound-pos w)
+little-below (suc w) (x ∷ l) b = omega (arith, b 0, little-below w l (λ i. b (suc i)))
+
+pub below-1 : (at : ℕ) (l : List ℕ) → Bytes l → numberAt at 1 l < 256
+unfolding numberAt bound
+below-1 at l b = little-below 1 (drop at l) (bytes-drop at l b)
+
+pub below-2 : (at : ℕ) (l : List ℕ) → Bytes l → numberAt at 2 l < 65536
+unfolding numberAt bound
+below-2 at l b = little-below 2 (drop at l) (bytes-drop at l b)
+
+pub below-4 : (at w : ℕ) (l : List ℕ) → w ≤ 4 → Bytes l → numberAt at w l < 2 ^ 32
+unfolding numberAt bound
+below-4 at zero l h b = omega (arith, little-below 0 (drop at l) (bytes-drop at l b))
+below-4 at (suc zero) l h b = omega (arith, little-below 1 (drop at l) (bytes-drop at l b))
+below-4 at (suc (suc zero)) l h b = omega (arith, little-below 2 (drop at l) (bytes-drop at l b))
+below-4 at (suc (suc (suc zero))) l h b = omega (arith, little-below 3 (drop at l) (bytes-drop at l b))
+below-4 at (suc (suc (suc (suc zero)))) l h b = omega (arith, little-below 4 (drop at l) (bytes-drop at l b))
+below-4 at (suc (suc (suc (suc (suc w))))) l h b = absurd (omega arith)
+
+-- one byte more, from the last to the first
+pub number-turn : (l : List ℕ) (at width i v : ℕ) → 0 < i → i ≤ width → at + width ≤ length l → v ≡ numberAt (at + i) (width - i) l
+    → 256 * v + getD l (at + (i - 1)) 0 ≡ numberAt (at + (i - 1)) (width - (i - 1)) l
+unfolding numberAt littleOf
+number-turn l at width i v p q r e =
+    let w : width - (i - 1) ≡ suc (width - i) = omega arith in
+    let n : suc (at + (i - 1)) ≡ at + i = omega arith in
+    let d : drop (at + (i - 1)) l ≡ getD l (at + (i - 1)) 0 ∷ drop (suc (at + (i - 1))) l = drop-cons l (at + (i - 1)) 0 (omega arith) in
+    rw (w, d, n, e) (omega arith)
+
+pub number-none : (l : List ℕ) (at width : ℕ) → 0 ≡ numberAt (at + width) (width - width) l
+unfolding numberAt littleOf
+number-none l at width = let w : width - width ≡ 0 = omega arith in rw w
+
+pub number-over : (l : List ℕ) (at width i v : ℕ) → v ≡ numberAt (at + i) (width - i) l → i ≤ 0 → v ≡ numberAt at width l
+number-over l at width i v e h = let z : i ≡ 0 = omega arith in e ∙ rw (z, add-zero, sub-zero)
+
+-- one byte stored
+pub put-turn : (room : List ℕ) (at width i v : ℕ) → i < width
+    → sets (set room (at + i) (v % 256)) (at + (i + 1)) (bytesOf (width - (i + 1)) (v / 256)) ≡ sets room (at + i) (bytesOf (width - i) v)
+unfolding bytesOf
+put-turn room at width i v h =
+    let w : width - i ≡ suc (width - (i + 1)) = omega arith in
+    let n : at + (i + 1) ≡ suc (at + i) = omega arith in
+    rw (w, n)
+
+pub put-over : (room : List ℕ) (at width i v : ℕ) → width ≤ i → room ≡ sets room (at + i) (bytesOf (width - i) v)
+unfolding bytesOf
+put-over room at width i v h = let w : width - i ≡ 0 = omega arith in rw w
+
+-- a number is read as it was written
+pub length-bytes : (w v : ℕ) → length (bytesOf w v) ≡ w
+unfolding bytesOf
+length-bytes zero v = refl
+length-bytes (suc w) v = ap suc (length-bytes w (v / 256))
+
+pub take-bytes : (w v : ℕ) (rest : List ℕ) → take w (bytesOf w v ++ rest) ≡ bytesOf w v
+unfolding bytesOf
+take-bytes zero v rest = refl
+take-bytes (suc w) v rest = ap (λ (l : List ℕ). v % 256 ∷ l) (take-bytes w (v / 256) rest)
+
+pub drop-bytes : (w v : ℕ) (rest : List ℕ) → drop w (bytesOf w v ++ rest) ≡ rest
+unfolding bytesOf
+drop-bytes zero v rest = refl
+drop-bytes (suc w) v rest = drop-bytes w (v / 256) rest
+
+little-bytes : (w v : ℕ) → v < bound w → littleOf (bytesOf w v) ≡ v
+unfolding littleOf bytesOf bound
+little-bytes zero v h = omega arith
+little-bytes (suc w) v h =
+    let r : littleOf (bytesOf w (v / 256)) ≡ v / 256 = little-bytes w (v / 256) (omega arith) in
+    rw r (omega arith)

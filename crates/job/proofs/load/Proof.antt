@@ -1,0 +1,64 @@
+-- `job::load` meets its contract: the check's answer picks the case, and a job without refusal is carried out over cells that are all 0.
+-- Assumes nothing.
+use lib.ListN.{length, length-replicate}
+use mathlib.Core.Option.{none}
+use mathlib.Core.Path.{_≡_}
+use borrow.Author.Needs.{needs}
+use Rattle.job.specs.Job.{nothingYet, refusalFrom}
+use Rattle.job.proofs.Loading.{load-few, turned, load-refused, none-refused, load-done}
+use Rattle.job.proofs.load.Statement.{statement}
+use Rattle.job.proofs.load.Tie as tie
+
+enough-cells-requires : tie.Need-enough-cells-requires
+enough-cells-requires c κs = search needs
+
+fresh-requires : tie.Need-fresh-requires
+fresh-requires c κs = search needs
+
+returns : tie.Need-returns
+returns c = load-few _ _ _ (c .fresh .ensures) (turned _ _ _ (c .before .before .enough-cells .ensures) (c .before .if1 .taken))
+
+examine-requires : tie.Need-examine-requires
+examine-requires c κs = search needs
+
+enum-told : tie.Need-enum-told
+enum-told c = search needs
+
+fresh-requires-2 : tie.Need-fresh-requires-2
+fresh-requires-2 c κs = search needs
+
+enum-told-2 : tie.Need-enum-told-2
+enum-told-2 c = search needs
+
+clear-requires : tie.Need-clear-requires
+clear-requires c κs = search needs
+
+carry-out-requires : tie.Need-carry-out-requires
+carry-out-requires c κs = let n : refusalFrom (length (c .before .before .before .before .before .before .before .before .before .before .before .before .before .args .job .now)) (length (c .before .before .before .before .before .before .before .before .before .before .before .before .before .args .cells .now)) (c .before .before .before .before .before .before .before .before .before .before .before .before .before .args .job .now) 0 nothingYet ≡ none = none-refused (c .before .before .before .before .before .before .before .before .before .before .before .before .before .args .job .now) (c .before .before .before .before .before .before .before .before .before .before .before .before .before .args .cells .now) _ (c .before .before .before .before .before .before .enum-told2 .given .1) (c .before .before .before .before .before .before .before .before .examine .ensures) in
+    rw (c .before .before .before .before .clear .ensures, length-replicate) n
+
+returns-2 : tie.Need-returns-2
+returns-2 c = load-refused _ _ _ _ _ _ (c .fresh2 .ensures) (turned _ _ _ (c .before .before .before .before .before .enough-cells .ensures) (c .before .before .before .before .if1 .left)) (c .before .enum-told .given .1) (c .before .before .before .examine .ensures)
+
+same-length : tie.Need-same-length
+same-length c = search needs
+
+returns-3 : tie.Need-returns-3
+returns-3 c = load-done (c .before .before .before .before .before .before .before .before .before .before .before .before .before .before .before .before .args .job .now) (c .before .before .before .before .before .before .before .before .before .before .before .before .before .before .before .before .args .cells .now) _ (turned _ _ _ (c .before .before .before .before .before .before .before .before .before .before .before .before .before .enough-cells .ensures) (c .before .before .before .before .before .before .before .before .before .before .before .before .if1 .left)) (none-refused (c .before .before .before .before .before .before .before .before .before .before .before .before .before .before .before .before .args .job .now) (c .before .before .before .before .before .before .before .before .before .before .before .before .before .before .before .before .args .cells .now) _ (c .before .before .before .before .before .before .before .before .before .enum-told2 .given .1) (c .before .before .before .before .before .before .before .before .before .before .before .examine .ensures)) (rw (c .before .before .before .before .before .before .before .clear .ensures) at (c .before .before .carry-out .ensures))
+
+pub load-spec : {M : Type 1} → statement M
+load-spec =
+    tie.close
+    (tie.spec
+    enough-cells-requires
+    fresh-requires
+    returns
+    examine-requires
+    enum-told
+    fresh-requires-2
+    enum-told-2
+    clear-requires
+    carry-out-requires
+    returns-2
+    same-length
+    returns-3)

@@ -1,0 +1,31 @@
+-- `job::records::run_end` meets its contract: a payload of the right length holds a base, and base and count are small.
+-- Assumes nothing.
+use native.Mathlib.Omega.{arith}
+use lib.ListN.{length}
+use mathlib.Core.Path.{refl}
+use borrow.Author.Needs.{needs}
+use Rattle.job.specs.declared.records.Kind.the-variants.{Run}
+use Rattle.job.proofs.Rules.{run-size}
+use Rattle.job.proofs.Numbers.{below-2}
+use Rattle.job.proofs.records.run_end.Statement.{statement}
+use Rattle.job.proofs.records.run_end.Tie as tie
+
+number-requires : tie.Need-number-requires
+number-requires c κs = let s = run-size Run (length (c .before .args .payload .now)) refl (c .before .pre) in (omega arith, omega arith)
+
+sub-result : tie.Need-sub-result
+sub-result c = let s = run-size Run (length (c .before .before .args .payload .now)) refl (c .before .before .pre) in omega arith
+
+cast-result : tie.Need-cast-result
+cast-result c = let s = run-size Run (length (c .before .before .args .payload .now)) refl (c .before .before .pre) in omega arith
+
+add-result : tie.Need-add-result
+add-result c = let s = run-size Run (length (c .before .before .args .payload .now)) refl (c .before .before .pre) in
+    let b = below-2 0 (c .before .before .args .payload .now) (λ k. c .before .shared-slice-known .given k .fits) in
+    omega (arith, c .number .ensures)
+
+returns : tie.Need-returns
+returns c = search needs
+
+pub run-end-spec : {M : Type 1} → statement M
+run-end-spec = tie.close (tie.spec number-requires sub-result cast-result add-result returns)

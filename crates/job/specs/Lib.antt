@@ -1,0 +1,3 @@
+pub mod Job
+pub mod Saving
+pub mod Inner

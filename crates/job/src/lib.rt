@@ -1,0 +1,95 @@
+// Jobs: a machine and its cells as records of bytes, loaded and saved.
+ghost use mathlib.Core.Path.{_≡_};
+ghost use mathlib.Core.Bool.{not};
+ghost use lib.ListN.{length};
+ghost use Rattle.machine.specs.Calls.{badCells};
+ghost use Rattle.job.specs.Job.{loadOf, loadWith};
+
+mod little;
+mod reading;
+mod records;
+
+use machine::Machine;
+use reading::carry_out;
+use reading::clear;
+use reading::examine;
+
+// Why a load or a save is refused: 10, 12 and 41 to 48, in this order.
+pub enum Refusal {
+    Unsettled,
+    Cells,
+    Short,
+    Unknown,
+    Length,
+    Cut,
+    Space,
+    Order,
+    After,
+    Room,
+}
+
+// What a load answers: done, or a refusal with its record's offset.
+pub enum Answer {
+    Done,
+    Refused { why: Refusal, offset: usize },
+}
+
+// What a load leaves beside the cells.
+pub struct Loaded {
+    pub machine: Machine,
+    pub answer: Answer,
+}
+
+// What a save answers: the length written, or a refusal.
+pub enum Saved {
+    Written(usize),
+    Unsaved(Refusal),
+}
+
+// Whether M is 1 to 16,384.
+fn enough_cells(m: usize) -> bool
+    ensures { λ r. ⌜ r ≡ not (badCells m) ⌝ }
+{
+    if m == 0 {
+        return false;
+    }
+    if Machine::MOST_CELLS < m {
+        return false;
+    }
+    true
+}
+
+// A job into the cells that the host lends: the machine and the cells that it holds, or the first refusal with nothing written.
+pub fn load(job: &[u8], cells: &mut [u32]) -> Loaded
+    ensures { λ r. ⌜ loadWith r (now (cells .exit)) ≡ loadOf (now (job .entry)) (now (cells .entry)) ⌝ }
+{
+    if !enough_cells(cells.len()) {
+        return Loaded {
+            machine: Machine::fresh(),
+            answer: Answer::Refused {
+                why: Refusal::Cells,
+                offset: 0,
+            },
+        };
+    }
+    let answer = examine(job, cells.len());
+    match answer {
+        Answer::Refused { why: _, offset: _ } => Loaded {
+            machine: Machine::fresh(),
+            answer,
+        },
+        Answer::Done => {
+            clear(cells);
+            let mut regs = [0u32; 256];
+            let settings = carry_out(job, &mut regs, cells);
+            Loaded {
+                machine: Machine {
+                    regs,
+                    settings,
+                    depth: 0,
+                },
+                answer: Answer::Done,
+            }
+        }
+    }
+}

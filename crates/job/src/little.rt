@@ -1,0 +1,36 @@
+// Little-endian numbers, read and written over the width.
+ghost use mathlib.Core.Path.{_≡_};
+ghost use Prim.Native.Nat.{_+_, _≤_, _<_, _^_, _*_};
+ghost use lib.ListN.{length};
+ghost use lib.Seq.{sets};
+ghost use Rattle.job.specs.Job.{numberAt, bytesOf};
+
+// The number of that width at a place.
+pub(crate) fn number(bytes: &[u8], at: usize, width: usize) -> u32
+    requires { ⌜ at + width ≤ length (now bytes) ⌝ }
+    requires { ⌜ width ≤ 4 ⌝ }
+    ensures { λ r. ⌜ r ≡ numberAt at width (now (bytes .entry)) ⌝ }
+{
+    let mut v: u32 = 0;
+    let mut i = width;
+    while 0 < i {
+        i = i - 1;
+        let b = bytes[at + i] as u32;
+        v = 256 * v + b;
+    }
+    v
+}
+
+// The bytes of a number, stored from a place on.
+pub(crate) fn put(room: &mut [u8], at: usize, width: usize, number: u32)
+    requires { ⌜ at + width ≤ length (now room) ⌝ }
+    ensures { λ r. ⌜ now (room .exit) ≡ sets (now (room .entry)) at (bytesOf width number) ⌝ }
+{
+    let mut v = number;
+    let mut i = 0;
+    while i < width {
+        room[at + i] = (v % 256) as u8;
+        v = v / 256;
+        i = i + 1;
+    }
+}
