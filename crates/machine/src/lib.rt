@@ -78,10 +78,10 @@ fn capacity(journal: &[u32]) -> u32
     ensures { λ r. ⌜ r ≡ capacityOf (now (journal .entry)) ⌝ }
 {
     let entries = journal.len() / 8;
-    if entries < 65536 {
+    if entries < Machine::MOST_ENTRIES as usize {
         entries as u32
     } else {
-        65536
+        Machine::MOST_ENTRIES
     }
 }
 

@@ -6,6 +6,9 @@ use Rattle.machine.specs.State.{capacityOf}
 use Rattle.machine.proofs.capacity.Statement.{statement}
 use Rattle.machine.proofs.capacity.Tie as tie
 
+cast-if1 : tie.Need-cast-if1
+cast-if1 c = search needs
+
 cast-result : tie.Need-cast-result
 cast-result c = search needs
 
@@ -18,4 +21,4 @@ unfolding capacityOf
 returns-2 c = omega arith
 
 pub capacity-spec : {M : Type 1} → statement M
-capacity-spec = tie.close (tie.spec cast-result returns returns-2)
+capacity-spec = tie.close (tie.spec cast-if1 cast-result returns returns-2)
