@@ -1,4 +1,5 @@
 pub mod Small
 pub mod Travel
+pub mod Loaded
 pub mod Repeat
 pub mod Once

@@ -3,3 +3,4 @@ pub mod Rules
 pub mod Walk
 pub mod Words
 pub mod Loading
+pub mod Lawful

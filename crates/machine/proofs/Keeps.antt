@@ -89,7 +89,7 @@ ready-kept s r = ready-moved s (refusalOf s) refl r
 abbrev pub Words : List ℕ → Type 0
 Words l = (i : ℕ) → getD l i 0 < 2 ^ 32
 
-set-words : (l : List ℕ) (i v : ℕ) → Words l → v < 2 ^ 32 → Words (set l i v)
+pub set-words : (l : List ℕ) (i v : ℕ) → Words l → v < 2 ^ 32 → Words (set l i v)
 set-words l i v w h j = at (eqb j i) refl (ltb i (length l)) refl
   where
     at : (t : Bool) → eqb j i ≡ t → (u : Bool) → ltb i (length l) ≡ u → getD (set l i v) j 0 < 2 ^ 32
