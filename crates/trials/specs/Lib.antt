@@ -1,0 +1,7 @@
+pub mod Adding
+pub mod Texts
+pub mod Payload
+pub mod Lines
+pub mod Calls
+pub mod Machines
+pub mod Answers
