@@ -3,3 +3,4 @@ pub mod Travel
 pub mod Loaded
 pub mod Repeat
 pub mod Once
+pub mod Refusals

@@ -3,8 +3,11 @@
 -- answer.
 -- Assumes nothing.
 use Prim.Native.Nat.{ℕ}
-use mathlib.Core.Path.{_≡_, sym, _∙_}
+use mathlib.Core.Path.{_≡_, refl, sym, ap, _∙_}
+use mathlib.Core.Bool.{cond}
+use mathlib.Core.Option.{Option, none, some}
 use mathlib.Core.List.{List}
+use lib.Dec.{eqb}
 use Rattle.word.specs.declared.Op.{Op}
 use Rattle.word.specs.declared.Asked.{Asked}
 use Rattle.word.specs.declared.Written.{Written}
@@ -15,6 +18,10 @@ use Rattle.cell.specs.declared.Operands.{Operands}
 use Rattle.cell.specs.declared.Encoded.{Encoded}
 use Rattle.cell.specs.Cell as cell
 use Rattle.cell.proofs.RoundTrip as cells
+use Rattle.line.specs.declared.Printed.{Printed}
+use Rattle.line.specs.declared.ReadLine.{ReadLine}
+use Rattle.line.specs.Line as line
+use Rattle.line.proofs.Lines as lines
 use Rattle.effect.specs.declared.Settings.{Settings}
 use Rattle.effect.specs.declared.execute.Considered.{Considered}
 use Rattle.effect.specs.Inner.{consideredOf}
@@ -23,6 +30,15 @@ use Rattle.machine.specs.declared.Ran.{Ran}
 use Rattle.machine.specs.State.{freshMachine, stateOf}
 use Rattle.machine.specs.Calls.{outOf, runOf, backOf}
 use Rattle.machine.proofs.Named as machine
+use Rattle.job.specs.declared.Refusal.{Refusal}
+use Rattle.job.specs.declared.Refusal.the-variants.{Unsettled, Cells, Short, Unknown, Length, Cut, Space, Order, After, Room}
+use Rattle.job.specs.declared.Answer.{Answer}
+use Rattle.job.specs.declared.Answer.the-variants.{Done, Refused}
+use Rattle.job.specs.declared.Loaded.{Loaded}
+use Rattle.job.specs.declared.Saved.{Saved}
+use Rattle.job.specs.declared.Saved.the-variants as save
+use Rattle.job.specs.Job as job
+use Rattle.job.specs.Saving as saving
 
 -- two that equal one thing are equal
 pub unique : {A : Type 0} {x y z : A} → x ≡ z → y ≡ z → x ≡ y
@@ -49,6 +65,14 @@ decode-once c r t = unique
 pub encode-once : (opcode : ℕ) (o : Operands) (r t : Encoded) → cell.saidOf r ≡ cell.encodeOf opcode o → cell.saidOf t ≡ cell.encodeOf opcode o → r ≡ t
 encode-once opcode o r t p q = cells.said-once r t (unique p q)
 
+pub print-once : (c : ℕ) (before : List ℕ) (r t : Printed) (room room' : List ℕ) → line.shownOf r room ≡ line.printOf c before → line.shownOf t room' ≡ line.printOf c before
+    → (r ≡ t) × (room ≡ room')
+print-once c before r t room room' p q = lines.print-once r t room room' (unique p q)
+
+-- a cell that is read is one of 32 bits
+pub read-once : (text : List ℕ) (r t : ReadLine) → lines.Small r → line.Reads text (line.saidOf r) → line.Reads text (line.saidOf t) → r ≡ t
+read-once = lines.read-once
+
 pub consider-once : (c : ℕ) (regs cells : List ℕ) (s : Settings) (r t : Considered)
     → r ≡ consideredOf (cell.decodeOf c) regs s cells → t ≡ consideredOf (cell.decodeOf c) regs s cells → r ≡ t
 consider-once c regs cells s r t = unique
@@ -65,3 +89,68 @@ module _ (m : Machine) (cells journal : List ℕ) (n : ℕ) (r t : Ran) (left le
   pub back-once : outOf r left journal ≡ backOf n (stateOf m cells journal) → outOf t left' journal ≡ backOf n (stateOf m cells journal)
       → (r ≡ t) × (left ≡ left')
   back-once p q = let w = machine.once _ r t left left' journal journal p q in (w .0, w .1)
+
+-- the refusal of a job by its number, if it is one
+abbrev heard : ℕ → Option Refusal
+heard k =
+    cond (eqb k 0) none
+    (some (cond (eqb k 10) Unsettled
+    (cond (eqb k 12) Cells
+    (cond (eqb k 41) Short
+    (cond (eqb k 42) Unknown
+    (cond (eqb k 43) Length
+    (cond (eqb k 44) Cut
+    (cond (eqb k 45) Space
+    (cond (eqb k 46) Order
+    (cond (eqb k 47) After Room))))))))))
+
+heard-number : (why : Refusal) → heard (job.numberOf why) ≡ some why
+heard-number Unsettled = refl
+heard-number Cells = refl
+heard-number Short = refl
+heard-number Unknown = refl
+heard-number Length = refl
+heard-number Cut = refl
+heard-number Space = refl
+heard-number Order = refl
+heard-number After = refl
+heard-number Room = refl
+
+-- what a load and a save answered, from what they said
+abbrev answered : Option Refusal → ℕ → Answer
+answered none offset = Done
+answered (some why) offset = Refused why offset
+
+abbrev loaded : job.Load → Loaded
+loaded l = record { machine = l .machine; answer = answered (heard (l .said .number)) (l .said .offset) }
+
+answer-said : (a : Answer) → answered (heard (job.saidOf a .number)) (job.saidOf a .offset) ≡ a
+answer-said Done = refl
+answer-said (Refused why offset) = rw (heard-number why)
+
+loaded-with : (r : Loaded) (cells : List ℕ) → loaded (job.loadWith r cells) ≡ r
+loaded-with r cells = rw (answer-said (r .answer))
+
+abbrev told : Option Refusal → ℕ → Saved
+told none size = save.Written size
+told (some why) size = save.Unsaved why
+
+saved-with : (r : Saved) (room : List ℕ) → told (heard (saving.saveWith r room .number)) (saving.saveWith r room .length) ≡ r
+saved-with (save.Written n) room = refl
+saved-with (save.Unsaved why) room = rw (heard-number why)
+
+room-with : (r : Saved) (room : List ℕ) → saving.saveWith r room .room ≡ room
+room-with (save.Written n) room = refl
+room-with (save.Unsaved why) room = refl
+
+pub load-once : (bytes before : List ℕ) (r t : Loaded) (cells cells' : List ℕ) → job.loadWith r cells ≡ job.loadOf bytes before → job.loadWith t cells' ≡ job.loadOf bytes before
+    → (r ≡ t) × (cells ≡ cells')
+load-once bytes before r t cells cells' p q =
+    let e = unique p q in
+    (sym (loaded-with r cells) ∙ ap loaded e ∙ loaded-with t cells', ap (λ (l : job.Load). l .cells) e)
+
+pub save-once : (m : Machine) (cells before : List ℕ) (r t : Saved) (room room' : List ℕ) → saving.saveWith r room ≡ saving.saveOf m cells before
+    → saving.saveWith t room' ≡ saving.saveOf m cells before → (r ≡ t) × (room ≡ room')
+save-once m cells before r t room room' p q =
+    let e = unique p q in
+    (sym (saved-with r room) ∙ ap (λ (s : saving.Save). told (heard (s .number)) (s .length)) e ∙ saved-with t room', sym (room-with r room) ∙ ap (λ (s : saving.Save). s .room) e ∙ room-with t room')

@@ -19,10 +19,10 @@ use Rattle.effect.specs.Refusal.{floats, faults, refusedBy}
 use Rattle.effect.proofs.Safe.{picked}
 use Rattle.machine.specs.State.{State, capacityOf}
 use Rattle.machine.specs.Journal.{endedOf, regsAfter, lastOf, damagedOf, undoOf}
-use Rattle.machine.specs.Calls.{Said, plainly, Course, going, stopped, refused, trapsOf, answered, courseOf, refusalOf, effectIn, instructionOf, moved, stepOf, Out, onward, runFrom, backFrom, checkOf, badCells, badSettings, called, runOf, backOf}
-use Rattle.machine.proofs.Counts.{step-refused, run-count}
+use Rattle.machine.specs.Calls.{Said, plainly, Course, going, stopped, refused, trapsOf, answered, courseOf, refusalOf, effectIn, instructionOf, moved, stepOf, Out, onward, runFrom, backFrom, checkOf, badCells, badSettings, called, callOf, stopAt, runOf, backOf}
+use Rattle.machine.proofs.Counts.{step-refused, run-count, back-count}
 use Rattle.demand.specs.Journey.{steps}
-use Rattle.demand.specs.Demands.{listed, runStops, backStops, Repeated}
+use Rattle.demand.specs.Demands.{listed, runStops, backStops, Repeated, undos, Returned}
 
 -- the stops that a step names
 abbrev stepStops : List ℕ
@@ -158,8 +158,16 @@ unfolding runFrom
 run-far zero k s = record { far = 0; count = omega arith; state = no-step s; most = omega arith; full = λ h. refl; said = zero-listed }
 run-far (suc n) k s = one-far (stepOf s .course) n k s (runFrom n) (step-fine s) refl (λ x. step-refused s x) (run-far n)
 
+-- the check of a call on s
+abbrev pub check : State → Option ℕ
+check s = checkOf (length (s .cells)) (s .settings) (capacityOf (s .journal)) (s .depth)
+
+-- Demand 1: a call that is refused at once leaves all as it was
+pub refused-at-once : (body : ℕ → ℕ → State → Out) (n : ℕ) (s : State) (k : ℕ) → check s ≡ some k → callOf body n s ≡ stopAt (plainly k) 0 s
+refused-at-once body n s k h = rw h
+
 -- Demand 2: a run of budget n that is not refused at once is the definition's step repeated
-pub repeated : (n : ℕ) (s : State) → checkOf (length (s .cells)) (s .settings) (capacityOf (s .journal)) (s .depth) ≡ none → Repeated n s (runOf n s)
+pub repeated : (n : ℕ) (s : State) → check s ≡ none → Repeated n s (runOf n s)
 repeated n s h =
     let w = run-far n 0 s in
     let c = w .count in
@@ -172,10 +180,6 @@ repeated n s h =
       full = λ z. d ∙ ap (λ (j : ℕ). s .depth + j) (k ∙ w .full (ap (λ (x : Out). x .said) (sym o) ∙ z));
       rise = d;
     }
-
--- the check of a call on s
-abbrev check : State → Option ℕ
-check s = checkOf (length (s .cells)) (s .settings) (capacityOf (s .journal)) (s .depth)
 
 -- Demand 1: what run and back say is one of document 01's numbers for them
 check-named : (s : State) → Named (10 ∷ 11 ∷ 12 ∷ []) (check s)
@@ -209,3 +213,48 @@ back-from-said (suc n) k s =
 
 pub back-said : (n : ℕ) (s : State) → listed backStops (backOf n s .said .number) ≡ true
 back-said n s = called-said (0 ∷ 8 ∷ 9 ∷ []) (10 ∷ 11 ∷ 12 ∷ []) backFrom n s (check s) (check-named s) (back-from-said n 0 s)
+
+-- one step back first, or last
+undos-first : (n : ℕ) (s : State) → undos n (undoOf s) ≡ undos (suc n) s
+unfolding undos
+undos-first zero s = refl
+undos-first (suc n) s = ap undoOf (undos-first n s)
+
+-- going back by n, of which k steps were done before
+record Fell (n k : ℕ) (s : State) (o : Out) : Type 0 where
+  far : ℕ
+  count : o .count ≡ k + far
+  state : o .state ≡ undos far s
+  most : far ≤ n
+
+fell-none : (n k : ℕ) (s : State) (x : Said) → Fell n k s (stopAt x k s)
+unfolding undos
+fell-none n k s x = record { far = 0; count = omega arith; state = refl; most = omega arith }
+
+fell-one : (n k : ℕ) (s : State) (o : Out) → Fell n (k + 1) (undoOf s) o → Fell (suc n) k s o
+fell-one n k s o w = record {
+  far = suc (w .far);
+  count = (let c = w .count in omega arith);
+  state = w .state ∙ undos-first (w .far) s;
+  most = (let c = w .most in omega arith);
+}
+
+back-fell : (n k : ℕ) (s : State) → Fell n k s (backFrom n k s)
+unfolding backFrom
+back-fell zero k s = fell-none 0 k s (plainly 0)
+back-fell (suc n) k s =
+    picked (Fell (suc n) k s) (eqb (s .depth) 0) _ _ (λ t. fell-none (suc n) k s (plainly 8)) (λ t.
+    picked (Fell (suc n) k s) (damagedOf (length (s .cells)) (lastOf (s .journal) (s .depth))) _ _ (λ t. fell-none (suc n) k s (plainly 9)) (λ t.
+    fell-one n k s _ (back-fell n (k + 1) (undoOf s))))
+
+-- Demand 2, back: going back by n that is not refused at once is the definition's step back repeated, so that a refused one leaves all as it was
+pub returned : (n : ℕ) (s : State) → check s ≡ none → Returned n s (backOf n s)
+returned n s h =
+    let w = back-fell n 0 s in
+    let o : backOf n s ≡ backFrom n 0 s = rw h in
+    let k : backOf n s .count ≡ w .far = ap (λ (x : Out). x .count) o ∙ w .count ∙ zero-add (w .far) in
+    record {
+      state = ap (λ (x : Out). x .state) o ∙ w .state ∙ ap (λ (j : ℕ). undos j s) (sym k);
+      most = rw k (w .most);
+      fall = back-count n s;
+    }
