@@ -6,6 +6,7 @@ use crate::generate_calls::instruction;
 use crate::job::{self, record};
 use crate::machine::Machine;
 use crate::random::Random;
+use crate::setup::Setup;
 use crate::trial::{LOAD, MOST_SAVE_ROOM, RUNJOB};
 
 const RUNJOB_CELLS: u32 = 4_096;
@@ -76,6 +77,71 @@ pub fn edges(random: &mut Random, trials: &mut Trials) {
         load(8, 100, &whole[..length], trials);
     }
     big(trials);
+    saves(trials);
+}
+
+/// Machines that no load makes: settings out of range, a depth, and what of them is judged first.
+fn saves(trials: &mut Trials) {
+    for (flags, mask, mode, depth) in [
+        (0, 0, 3, 0),
+        (511, 511, 0, 0),
+        (512, 0, 3, 0),
+        (0, 512, 3, 0),
+        (0, 0, 4, 0),
+        (65_536, 0, 3, 0),
+        (0, 65_536, 3, 0),
+        (0, 0, 256, 0),
+        (0, 0, 259, 0),
+        (0, 0, 3, 1),
+        (1, 2, 3, 65_536),
+        (0, 0, 3, 0xFFFF_FFFF),
+    ] {
+        for m in [0, 3, 16_384, 16_385] {
+            for room in [0, 5, 6, 200] {
+                let mut setup = Setup { flags, mask, mode, depth, ..Setup::new(m, room) };
+                setup.registers.extend([(0, 1), (255, 2)]);
+                setup.place(1, &[7]);
+                setup.add_saving_to(trials);
+            }
+        }
+    }
+    // Runs at the first and at the last cell, one cell apart, and of all cells.
+    for content in [[1, 0, 1, 0, 1], [0, 1, 0, 1, 0], [1, 1, 0, 1, 1], [1, 1, 1, 1, 1], [0, 0, 0, 0, 0], [0, 0, 0, 0, 9]] {
+        for m in 1..6 {
+            let mut setup = Setup::new(m, 60);
+            setup.place(0, &content);
+            setup.add_saving_to(trials);
+        }
+    }
+    let mut full = Setup::new(40, 3_000);
+    full.registers.extend((0..=255).map(|register| (register, 1 << (register % 32))));
+    full.add_saving_to(trials);
+}
+
+/// A machine of any kind, with room for what is saved of it or about as much.
+fn random_save(random: &mut Random, trials: &mut Trials) {
+    let m = random.pick(&[1, 2, 3, 8, 40, 300, 16_384, 16_384, 16_385]);
+    let mut setup = Setup::new(m, 0);
+    let odd = random.chance(20);
+    setup.flags = if odd { random.word() } else { random.pick(&[0, 0, 1, 256, 511]) };
+    setup.mask = if random.chance(50) { 0 } else { random.pick(&[1, 4, 128, 511, 512]) };
+    setup.mode = random.pick(&[0, 1, 2, 3, 3, 3, 3, 4]);
+    setup.depth = random.pick(&[0, 0, 1, 7, 65_537, 0xFFFF_FFFF]);
+    for _ in 0..random.below(12) {
+        setup.registers.push((random.register(), random.word()));
+    }
+    for _ in 0..random.below(6) {
+        let at = random.below(m as u64) as u32;
+        let content: Vec<u32> = (0..random.below(6)).map(|_| random.word()).collect();
+        setup.place(at, &content);
+    }
+    let mut content = vec![0; m as usize];
+    let mut machine = Machine::fresh();
+    (machine.flags, machine.mask, machine.mode) = (setup.flags, setup.mask, setup.mode);
+    setup.registers.iter().for_each(|(register, value)| machine.registers[*register as usize] = *value);
+    setup.cells.iter().for_each(|(place, value)| content[*place as usize] = *value);
+    setup.words = about(job::saved(&machine, &content).len() as u32, random);
+    setup.add_saving_to(trials);
 }
 
 /// Each refusal where it begins, and what is judged first where two would do.
@@ -184,6 +250,9 @@ fn big(trials: &mut Trials) {
 }
 
 pub fn random(random: &mut Random, trials: &mut Trials) {
+    if random.chance(15) {
+        return random_save(random, trials);
+    }
     let run = random.chance(45);
     let m = if run {
         RUNJOB_CELLS
@@ -289,16 +358,20 @@ fn load(m: u32, room: u32, job: &[u8], trials: &mut Trials) {
     trials.add(LOAD, &payload);
 }
 
-/// The room is most often just enough for what will be saved, or just too little.
-fn load_any_room(m: u32, job: &[u8], random: &mut Random, trials: &mut Trials) {
-    let mut content = vec![1; m as usize];
-    let machine = job::load(job, &mut content).unwrap_or(Machine::fresh());
-    let length = job::saved(&machine, &content).len() as u32;
+/// A room's length: most often just enough for what will be saved, or just too little.
+fn about(length: u32, random: &mut Random) -> u32 {
     let room = match random.below(10) {
         0..=3 => length,
         4 | 5 => length - 1,
         6 => random.below(length as u64) as u32,
         _ => length + random.below(40) as u32,
     };
-    load(m, room.min(MOST_SAVE_ROOM as u32), job, trials);
+    room.min(MOST_SAVE_ROOM as u32)
+}
+
+fn load_any_room(m: u32, job: &[u8], random: &mut Random, trials: &mut Trials) {
+    let mut content = vec![1; m as usize];
+    let machine = job::load(job, &mut content).unwrap_or(Machine::fresh());
+    let length = job::saved(&machine, &content).len() as u32;
+    load(m, about(length, random), job, trials);
 }

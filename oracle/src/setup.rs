@@ -1,12 +1,13 @@
-//! A trial of calls under construction: the machine, cells and journal before, and the calls.
+//! A trial of calls or of a save under construction: the machine, cells and journal before, and the calls; or the room's length.
 
 use crate::generate::Trials;
 use crate::machine::{ENTRY_WORDS, PC};
 use crate::random::Random;
-use crate::trial::CALLS;
+use crate::trial::{CALLS, SAVE};
 
 pub struct Setup {
     pub m: u32,
+    /// The journal's words, or the room's bytes.
     pub words: u32,
     pub flags: u32,
     pub mask: u32,
@@ -16,6 +17,16 @@ pub struct Setup {
     pub cells: Vec<(u32, u32)>,
     pub journal: Vec<(u32, u32)>,
     pub calls: Vec<(u8, u64)>,
+}
+
+/// A count and settings of places.
+fn places(list: &[(u32, u32)]) -> Vec<u8> {
+    let mut bytes = (list.len() as u16).to_le_bytes().to_vec();
+    for (place, value) in list {
+        bytes.extend(place.to_le_bytes());
+        bytes.extend(value.to_le_bytes());
+    }
+    bytes
 }
 
 impl Setup {
@@ -54,7 +65,8 @@ impl Setup {
         }
     }
 
-    pub fn add_to(&self, trials: &mut Trials) {
+    /// The machine and its cells, as payloads begin.
+    fn state(&self) -> Vec<u8> {
         let mut payload = Vec::new();
         for word in [self.m, self.words, self.flags, self.mask, self.mode, self.depth] {
             payload.extend(word.to_le_bytes());
@@ -64,13 +76,17 @@ impl Setup {
             payload.push(*register);
             payload.extend(value.to_le_bytes());
         }
-        for list in [&self.cells, &self.journal] {
-            payload.extend((list.len() as u16).to_le_bytes());
-            for (place, value) in list {
-                payload.extend(place.to_le_bytes());
-                payload.extend(value.to_le_bytes());
-            }
-        }
+        payload.extend(places(&self.cells));
+        payload
+    }
+
+    pub fn add_saving_to(&self, trials: &mut Trials) {
+        trials.add(SAVE, &self.state());
+    }
+
+    pub fn add_to(&self, trials: &mut Trials) {
+        let mut payload = self.state();
+        payload.extend(places(&self.journal));
         payload.extend((self.calls.len() as u16).to_le_bytes());
         for (call, number) in &self.calls {
             payload.push(*call);

@@ -128,7 +128,6 @@ fn a_saved_job_loads_again() {
     let mut short = [0xAA; 25];
     assert_eq!(save(&machine, &cells, &mut short), Err(48));
     assert_eq!(short, [0xAA; 25]);
-    // No trial saves such a machine: those under trial come out of a load.
     let odd = Machine { mode: 4, ..machine };
     assert_eq!(save(&odd, &cells, &mut room), Err(10));
 }

@@ -13,6 +13,7 @@ pub const READ: u8 = 4;
 pub const LOAD: u8 = 5;
 pub const CALLS: u8 = 6;
 pub const RUNJOB: u8 = 7;
+pub const SAVE: u8 = 8;
 
 pub const STEP: u8 = 0;
 pub const RUN: u8 = 1;
@@ -114,6 +115,7 @@ pub fn answer(kind: u8, payload: &[u8], tally: &mut Tally) -> Result<String, Str
         LOAD => load(&mut input, tally)?,
         CALLS => calls(&mut input, tally)?,
         RUNJOB => runjob(&mut input, tally),
+        SAVE => save(&mut input, tally)?,
         _ => return Err(format!("kind {kind} is unknown")),
     };
     input.end()?;
@@ -187,16 +189,21 @@ fn load_text(job: &[u8], cells: &mut [u32], tally: &mut Tally) -> (String, Machi
     (format!("{first}\n{}\n", machine_text(&machine, cells)), machine)
 }
 
+/// A save's two lines.
+fn save_text(saved: Result<usize, u32>, room: &[u8], tally: &mut Tally) -> String {
+    let first = match saved {
+        Ok(length) => format!("saved {length}\n"),
+        Err(number) => refused("save", number, tally),
+    };
+    format!("{first}room {}\n", digest(room.iter().map(|byte| *byte as u32)))
+}
+
 fn load(input: &mut Input, tally: &mut Tally) -> Result<String, String> {
     let mut cells = vec![CELLS_FILL; input.length(4, MOST_CELLS)?];
     let mut room = vec![ROOM_FILL; input.length(4, MOST_SAVE_ROOM)?];
     let (mut text, machine) = load_text(std::mem::take(&mut input.bytes), &mut cells, tally);
     let saved = job::save(&machine, &cells, &mut room);
-    text += &match saved {
-        Ok(length) => format!("saved {length}\n"),
-        Err(number) => refused("save", number, tally),
-    };
-    text += &format!("room {}\n", digest(room.iter().map(|byte| *byte as u32)));
+    text += &save_text(saved, &room, tally);
     if let Ok(length) = saved {
         let mut fresh = vec![FRESH_CELLS_FILL; cells.len()];
         text += &load_text(&room[..length], &mut fresh, tally).0;
@@ -214,13 +221,27 @@ fn settings(input: &mut Input, place_bytes: usize, list: &mut [u32]) -> Result<(
     Ok(())
 }
 
+/// The machine of which the payload gives settings, depth and registers.
+fn machine(input: &mut Input) -> Result<Machine, String> {
+    let (flags, mask, mode, depth) = (input.word()?, input.word()?, input.word()?, input.word()?);
+    let mut machine = Machine { registers: [0; 256], flags, mask, mode, depth };
+    settings(input, 1, &mut machine.registers)?;
+    Ok(machine)
+}
+
+fn save(input: &mut Input, tally: &mut Tally) -> Result<String, String> {
+    let mut cells = vec![0; input.length(4, MOST_CELLS)?];
+    let mut room = vec![ROOM_FILL; input.length(4, MOST_SAVE_ROOM)?];
+    let machine = machine(input)?;
+    settings(input, 4, &mut cells)?;
+    let saved = job::save(&machine, &cells, &mut room);
+    Ok(save_text(saved, &room, tally))
+}
+
 fn calls(input: &mut Input, tally: &mut Tally) -> Result<String, String> {
     let cells = vec![0; input.length(4, MOST_CELLS)?];
     let journal = vec![0; input.length(4, MOST_JOURNAL)?];
-    let (flags, mask, mode, depth) = (input.word()?, input.word()?, input.word()?, input.word()?);
-    let machine = Machine { registers: [0; 256], flags, mask, mode, depth };
-    let mut runner = Runner::new(machine, cells, journal);
-    settings(input, 1, &mut runner.machine.registers)?;
+    let mut runner = Runner::new(machine(input)?, cells, journal);
     settings(input, 4, &mut runner.cells)?;
     settings(input, 4, &mut runner.journal)?;
     let mut text = String::new();
