@@ -18,6 +18,8 @@ use Rattle.cell.specs.declared.Operands.{Operands}
 use Rattle.cell.specs.declared.Encoded.{Encoded}
 use Rattle.cell.specs.Cell as cell
 use Rattle.cell.proofs.RoundTrip as cells
+use Rattle.text.specs.Text.{Added}
+use Rattle.text.proofs.Adds as text
 use Rattle.line.specs.declared.Printed.{Printed}
 use Rattle.line.specs.declared.ReadLine.{ReadLine}
 use Rattle.line.specs.Line as line
@@ -64,6 +66,10 @@ decode-once c r t = unique
 
 pub encode-once : (opcode : ℕ) (o : Operands) (r t : Encoded) → cell.saidOf r ≡ cell.encodeOf opcode o → cell.saidOf t ≡ cell.encodeOf opcode o → r ≡ t
 encode-once opcode o r t p q = cells.said-once r t (unique p q)
+
+-- what is put into a text, whatever the piece: `put`, `put_decimal`, `put_number`
+pub put-once : {before piece after after' : List ℕ} {at r t : ℕ} → Added before at piece after r → Added before at piece after' t → (after ≡ after') × (r ≡ t)
+put-once = text.once
 
 pub print-once : (c : ℕ) (before : List ℕ) (r t : Printed) (room room' : List ℕ) → line.shownOf r room ≡ line.printOf c before → line.shownOf t room' ≡ line.printOf c before
     → (r ≡ t) × (room ≡ room')

@@ -1,5 +1,4 @@
-pub mod Adds
-pub mod Decimal
+pub mod Lists
 pub mod Rooms
 pub mod Steps
 pub mod Progress

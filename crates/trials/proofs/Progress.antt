@@ -6,11 +6,11 @@ use native.Mathlib.Omega.{arith}
 use lib.ListN.{getD}
 use Rattle.machine.specs.State.{State}
 use Rattle.machine.specs.Calls.{Out}
-use Rattle.trials.specs.Adding.{Added}
+use Rattle.text.specs.Text.{Added}
 use Rattle.trials.specs.Payload.{longAt}
 use Rattle.trials.specs.Calls.{ranText}
 use Rattle.trials.specs.Machines.{callBy, callsText}
-use Rattle.trials.proofs.Adds.{added-then}
+use Rattle.text.proofs.Adds.{added-then}
 
 -- some lines are put, and with those of the calls that are left they are all
 pub record Going (s : List ℕ) (all : List ℕ) (before : List ℕ) (at : ℕ) (left : ℕ) (place : ℕ) (x : State) (text : List ℕ) (end : ℕ) : Type 0 where

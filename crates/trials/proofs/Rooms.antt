@@ -5,9 +5,11 @@ use Prim.Native.Nat.{ℕ, _<_, _-_}
 use lib.ListN.{length, getD, take, drop}
 use native.Mathlib.Omega.{arith}
 use lib.Seq.{take-all}
-use Rattle.trials.specs.Adding.{Added}
-use Rattle.trials.specs.Texts.{named, restText, roomText}
-use Rattle.trials.proofs.Adds.{added-then, cons-of}
+use Rattle.text.specs.Text.{Added}
+use Rattle.text.specs.Text.{named}
+use Rattle.trials.specs.Texts.{restText, roomText}
+use Rattle.text.proofs.Adds.{added-then}
+use Rattle.trials.proofs.Lists.{cons-of}
 
 -- all that is left after the first
 whole : (s : List ℕ) → take (length s - 1) (drop 1 s) ≡ drop 1 s

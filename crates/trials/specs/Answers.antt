@@ -10,7 +10,7 @@ use Rattle.cell.specs.declared.Operands.the-variants.{Registers, Immediate}
 use Rattle.cell.specs.Cell.{decodeOf, encodeOf}
 use Rattle.line.specs.Line.{Reads, printOf}
 use Rattle.cell.specs.Cell.{Said}
-use Rattle.trials.specs.Adding.{Added}
+use Rattle.text.specs.Text.{Added}
 use Rattle.trials.specs.Payload.{halfAt, wordAt}
 use Rattle.trials.specs.Texts.{headingText, decodedText, saidText, printedText}
 use Rattle.trials.specs.Machines.{callsAnswer}

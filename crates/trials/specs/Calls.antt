@@ -4,9 +4,8 @@ use Prim.Native.Nat.{ℕ, zero, suc, _+_, _*_, _%_}
 use lib.ListN.{getD, set}
 use Rattle.effect.specs.declared.Settings.{Settings}
 use Rattle.machine.specs.Calls.{Said, Out}
-use Rattle.line.specs.Line.{bytes}
+use Rattle.text.specs.Text.{bytes, named}
 use Rattle.trials.specs.declared.calls.Told.{Told}
-use Rattle.trials.specs.Texts.{named}
 use Rattle.trials.specs.Payload.{wordAt}
 
 -- X, from X = 0 on by X = (X * 31 + w + 1) modulo 2^32 over the words in order

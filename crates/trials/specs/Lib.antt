@@ -1,4 +1,3 @@
-pub mod Adding
 pub mod Texts
 pub mod Payload
 pub mod Lines

@@ -3,7 +3,7 @@ use mathlib.Core.List.{List}
 use Prim.Native.Nat.{ℕ}
 use Rattle.cell.specs.Cell.{Said}
 use Rattle.line.specs.Line.{Reads}
-use Rattle.trials.specs.Adding.{Added}
+use Rattle.text.specs.Text.{Added}
 use Rattle.trials.specs.Texts.{saidText}
 
 -- the text of what reading a line says, which `Reads` leaves no choice of

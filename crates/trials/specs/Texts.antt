@@ -7,15 +7,8 @@ use lib.Dec.{eqb}
 use Rattle.cell.specs.declared.Instruction.{Instruction}
 use Rattle.cell.specs.declared.Instruction.the-variants.{Registers, Immediate, Reserved}
 use Rattle.cell.specs.Cell.{Said}
-use Rattle.line.specs.Line.{bytes, digits, Shown}
-
--- a number's decimal digits, without leading zeros: twenty hold every number below 2^64
-unfoldable pub decimal : ℕ → List ℕ
-decimal n = digits 20 n
-
--- a name and a number after it
-abbrev pub named : String → ℕ → List ℕ
-named s n = bytes s ++ decimal n
+use Rattle.text.specs.Text.{bytes, named}
+use Rattle.line.specs.Line.{Shown}
 
 abbrev pub lineText : String → ℕ → List ℕ
 lineText s n = named s n ++ bytes "\n"

@@ -4,7 +4,7 @@ ghost use Prim.Native.Nat.{_+_, _*_, _≤_, _<_, _^_};
 ghost use lib.ListN.{length, replicate};
 ghost use Rattle.machine.specs.Calls.{saidOf, outOf};
 ghost use Rattle.machine.specs.State.{stateOf};
-ghost use Rattle.trials.specs.Adding.{Added};
+ghost use Rattle.text.specs.Text.{Added};
 ghost use Rattle.trials.specs.Calls.{digestOf, toldOf, stopText, settingsText, digestsText, ranText, wordsFrom, registersFrom};
 ghost use Rattle.trials.specs.Payload.{halfAt};
 ghost use Rattle.trials.specs.Machines.{callBy, callsText, layoutOf, machineOf, callsAnswer};
@@ -12,12 +12,12 @@ use crate::payload::byte_at;
 use crate::payload::half_at;
 use crate::payload::long_at;
 use crate::payload::word_at;
-use crate::text::put;
-use crate::text::put_number;
 use effect::Settings;
 use machine::Machine;
 use machine::Ran;
 use machine::Stop;
+use text::put;
+use text::put_number;
 
 // The number that stands for a list of words in an answer.
 fn digest(words: &[u32]) -> u64
@@ -114,7 +114,6 @@ fn tell(stop: Stop) -> Told
 
 // Puts the stop, the count and the PC of a call.
 fn put_stop(text: &mut [u8], at: usize, told: Told, count: u64, pc: u32) -> usize
-    requires { ⌜ at ≤ length (now text) ⌝ }
     ensures { λ r. ⌜ Added (now (text .entry)) at (stopText (toldOf told) count pc) (now (text .exit)) r ⌝ }
 {
     let a = put_number(text, at, b"stop ", told.number);
@@ -126,7 +125,6 @@ fn put_stop(text: &mut [u8], at: usize, told: Told, count: u64, pc: u32) -> usiz
 
 // Puts the settings and the depth that a call left.
 fn put_settings(text: &mut [u8], at: usize, s: Settings, depth: u32) -> usize
-    requires { ⌜ at ≤ length (now text) ⌝ }
     ensures { λ r. ⌜ Added (now (text .entry)) at (settingsText s depth) (now (text .exit)) r ⌝ }
 {
     let a = put_number(text, at, b" flags ", s.flags as u64);
@@ -137,7 +135,6 @@ fn put_settings(text: &mut [u8], at: usize, s: Settings, depth: u32) -> usize
 
 // Puts the digests of what a call left, and LF.
 fn put_digests(text: &mut [u8], at: usize, regs: &[u32], cells: &[u32], journal: &[u32]) -> usize
-    requires { ⌜ at ≤ length (now text) ⌝ }
     ensures { λ r. ⌜ Added (now (text .entry)) at (digestsText (now (regs .entry)) (now (cells .entry)) (now (journal .entry))) (now (text .exit)) r ⌝ }
 {
     let a = put_number(text, at, b" registers ", digest(regs));
@@ -148,7 +145,6 @@ fn put_digests(text: &mut [u8], at: usize, regs: &[u32], cells: &[u32], journal:
 
 // Puts the line of a call.
 fn put_ran(text: &mut [u8], at: usize, ran: Ran, cells: &[u32], journal: &[u32]) -> usize
-    requires { ⌜ at ≤ length (now text) ⌝ }
     ensures { λ r. ⌜ Added (now (text .entry)) at (ranText (outOf ran (now (cells .entry)) (now (journal .entry)))) (now (text .exit)) r ⌝ }
 {
     let m = ran.machine;

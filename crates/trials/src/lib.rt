@@ -2,13 +2,12 @@
 ghost use mathlib.Core.Path.{_≡_};
 ghost use Prim.Native.Nat.{_≤_, min};
 ghost use lib.ListN.{length};
-ghost use Rattle.trials.specs.Adding.{Added};
+ghost use Rattle.text.specs.Text.{Added};
 ghost use Rattle.trials.specs.Answers.{Answered, Whole, Counts, callsIn, operandsOf};
 
 mod calls;
 mod lines;
 mod payload;
-mod text;
 
 use calls::put_calls;
 use cell::Operands;

@@ -1,23 +1,22 @@
 // The answers to trials of decoding, encoding, printing and reading.
 ghost use mathlib.Core.Path.{_≡_};
-ghost use Prim.Native.Nat.{_≤_, min};
+ghost use Prim.Native.Nat.{min};
 ghost use mathlib.Core.List.{_++_};
-ghost use lib.ListN.{length, replicate, take};
+ghost use lib.ListN.{replicate, take};
 ghost use Rattle.cell.specs.Cell.{decodeOf, saidOf};
-ghost use Rattle.line.specs.Line.{bytes, printOf};
-ghost use Rattle.trials.specs.Adding.{Added};
-ghost use Rattle.trials.specs.Texts.{decimal, headingText, decodedText, saidText, restText, roomText, printedText};
+ghost use Rattle.line.specs.Line.{printOf};
+ghost use Rattle.text.specs.Text.{bytes, decimal, Added};
+ghost use Rattle.trials.specs.Texts.{headingText, decodedText, saidText, restText, roomText, printedText};
 ghost use Rattle.trials.specs.Lines.{ReadAnswer};
-use crate::text::put;
-use crate::text::put_number;
 use cell::Encoded;
 use cell::Instruction;
 use line::Printed;
 use line::ReadLine;
+use text::put;
+use text::put_number;
 
 // Puts a line of a name and a number, and answers where it ends.
 pub(crate) fn put_line(text: &mut [u8], at: usize, name: &[u8], n: u64) -> usize
-    requires { ⌜ at ≤ length (now text) ⌝ }
     ensures { λ r. ⌜ Added (now (text .entry)) at (now (name .entry) ++ decimal n ++ bytes "\n") (now (text .exit)) r ⌝ }
 {
     let a = put_number(text, at, name, n);
@@ -35,7 +34,6 @@ pub(crate) fn put_heading(text: &mut [u8], number: u64, kind: u8) -> usize
 
 // Puts the line of an instruction with three registers.
 fn put_registers(text: &mut [u8], at: usize, opcode: u8, n: u8, m: u8, l: u8) -> usize
-    requires { ⌜ at ≤ length (now text) ⌝ }
     ensures { λ r. ⌜ Added (now (text .entry)) at (decodedText (Instruction.Registers opcode n m l)) (now (text .exit)) r ⌝ }
 {
     let a = put_number(text, at, b"registers ", opcode as u64);
@@ -47,7 +45,6 @@ fn put_registers(text: &mut [u8], at: usize, opcode: u8, n: u8, m: u8, l: u8) ->
 
 // Puts the line of an instruction with a register and an immediate.
 fn put_immediate(text: &mut [u8], at: usize, opcode: u8, n: u8, imm: u16) -> usize
-    requires { ⌜ at ≤ length (now text) ⌝ }
     ensures { λ r. ⌜ Added (now (text .entry)) at (decodedText (Instruction.Immediate opcode n imm)) (now (text .exit)) r ⌝ }
 {
     let a = put_number(text, at, b"immediate ", opcode as u64);
@@ -58,7 +55,6 @@ fn put_immediate(text: &mut [u8], at: usize, opcode: u8, n: u8, imm: u16) -> usi
 
 // Puts the answer to a decoding.
 pub(crate) fn put_decoded(text: &mut [u8], at: usize, cell: u32) -> usize
-    requires { ⌜ at ≤ length (now text) ⌝ }
     ensures { λ r. ⌜ Added (now (text .entry)) at (decodedText (decodeOf cell)) (now (text .exit)) r ⌝ }
 {
     let instruction = cell::decode(cell);
@@ -71,7 +67,6 @@ pub(crate) fn put_decoded(text: &mut [u8], at: usize, cell: u32) -> usize
 
 // Puts the answer to an encoding.
 pub(crate) fn put_encoded(text: &mut [u8], at: usize, encoded: Encoded) -> usize
-    requires { ⌜ at ≤ length (now text) ⌝ }
     ensures { λ r. ⌜ Added (now (text .entry)) at (saidText (saidOf encoded)) (now (text .exit)) r ⌝ }
 {
     match encoded {
@@ -83,7 +78,6 @@ pub(crate) fn put_encoded(text: &mut [u8], at: usize, encoded: Encoded) -> usize
 
 // Puts the answer to a reading.
 pub(crate) fn put_read(text: &mut [u8], at: usize, payload: &[u8]) -> usize
-    requires { ⌜ at ≤ length (now text) ⌝ }
     ensures { λ r. ⌜ ReadAnswer (now (payload .entry)) (now (text .entry)) at (now (text .exit)) r ⌝ }
 {
     let said = line::read(payload);
@@ -95,7 +89,6 @@ pub(crate) fn put_read(text: &mut [u8], at: usize, payload: &[u8]) -> usize
 
 // Puts the bytes of a room that are left, a space before each, and LF.
 fn put_rest(text: &mut [u8], at: usize, room: &[u8]) -> usize
-    requires { ⌜ at ≤ length (now text) ⌝ }
     ensures { λ r. ⌜ Added (now (text .entry)) at (restText (now (room .entry))) (now (text .exit)) r ⌝ }
 {
     if room.len() == 0 {
@@ -114,7 +107,6 @@ fn wide(b: u8) -> u64
 
 // Puts the bytes of a room, with spaces between, and LF.
 fn put_room(text: &mut [u8], at: usize, room: &[u8]) -> usize
-    requires { ⌜ at ≤ length (now text) ⌝ }
     ensures { λ r. ⌜ Added (now (text .entry)) at (roomText (now (room .entry))) (now (text .exit)) r ⌝ }
 {
     if room.len() == 0 {
@@ -126,7 +118,6 @@ fn put_room(text: &mut [u8], at: usize, room: &[u8]) -> usize
 
 // Puts the answer to a printing into a room.
 fn put_printed(text: &mut [u8], at: usize, cell: u32, room: &mut [u8]) -> usize
-    requires { ⌜ at ≤ length (now text) ⌝ }
     ensures { λ r. ⌜ Added (now (text .entry)) at (printedText (printOf cell (now (room .entry)))) (now (text .exit)) r ⌝ }
 {
     let printed = line::print(cell, room);
@@ -151,7 +142,6 @@ fn most(size: u8) -> usize
 
 // Puts the answer to a printing into room of a size, of at most 40 bytes that held 170.
 pub(crate) fn put_print(text: &mut [u8], at: usize, cell: u32, size: u8) -> usize
-    requires { ⌜ at ≤ length (now text) ⌝ }
     ensures { λ r. ⌜ Added (now (text .entry)) at (printedText (printOf cell (take (min size 40) (replicate 40 170)))) (now (text .exit)) r ⌝ }
 {
     let mut room = [170u8; 40];

@@ -4,7 +4,7 @@ use Prim.Native.Nat.{_≤_}
 use native.Mathlib.Omega.{arith}
 use lib.ListN.{length}
 use lib.Seq.{length-take-le}
-use Rattle.trials.proofs.Adds.{added-then}
+use Rattle.text.proofs.Adds.{added-then}
 use borrow.Author.Needs.{needs}
 use Rattle.trials.proofs.answer.Statement.{statement}
 use Rattle.trials.proofs.answer.Tie as tie

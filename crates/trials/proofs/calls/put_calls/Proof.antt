@@ -3,7 +3,7 @@ use mathlib.Core.Path.{subst}
 use Prim.Native.Nat.{_+_}
 use Rattle.machine.specs.declared.Machine.{Machine}
 use Rattle.machine.specs.State.{stateOf}
-use Rattle.trials.specs.Adding.{Added}
+use Rattle.text.specs.Text.{Added}
 use Rattle.trials.specs.Machines.{callsText}
 use mathlib.Core.Path.{_≡_, ap}
 use Rattle.trials.specs.declared.calls.Layout.{Layout}

@@ -1,6 +1,6 @@
 -- `trials::calls::put_ran` meets its contract: the three parts of the line, put one after the other.
 use Rattle.trials.specs.Calls.{ranText}
-use Rattle.trials.proofs.Adds.{added-then}
+use Rattle.text.proofs.Adds.{added-then}
 use borrow.Author.Needs.{needs}
 use Rattle.trials.proofs.calls.put_ran.Statement.{statement}
 use Rattle.trials.proofs.calls.put_ran.Tie as tie

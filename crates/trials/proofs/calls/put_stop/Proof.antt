@@ -1,5 +1,5 @@
 -- `trials::calls::put_stop` meets its contract: the pieces, put one after the other.
-use Rattle.trials.proofs.Adds.{added-then}
+use Rattle.text.proofs.Adds.{added-then}
 use borrow.Author.Needs.{needs}
 use Rattle.trials.proofs.calls.put_stop.Statement.{statement}
 use Rattle.trials.proofs.calls.put_stop.Tie as tie

@@ -1,7 +1,7 @@
 -- `trials::calls::set_words` meets its contract: the settings that are left make of the words what all make of the first ones.
 use mathlib.Core.Path.{ap}
 use lib.ListN.{set}
-use Rattle.trials.proofs.Adds.{set-past}
+use Rattle.text.proofs.Adds.{set-past}
 use mathlib.Core.Logic.{⊎-elim}
 use Rattle.trials.specs.Payload.{wordAt}
 use Rattle.trials.proofs.Steps.{words-step, words-none}

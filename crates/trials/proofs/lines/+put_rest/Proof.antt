@@ -1,9 +1,9 @@
 -- `trials::lines::put_rest` meets its contract: a byte, and those after it. The measure is the length of the room.
-use Rattle.trials.proofs.text.put.Reads as put-reads
+use Rattle.text.proofs.put.Reads as put-reads
 use Rattle.trials.proofs.lines.wide.Reads as wide-reads
-use Rattle.trials.proofs.text.put_number.Reads as put-number-reads
+use Rattle.text.proofs.put_number.Reads as put-number-reads
 use Rattle.trials.proofs.Rooms.{rest-added}
-use Rattle.trials.proofs.Adds.{nil-of}
+use Rattle.trials.proofs.Lists.{nil-of}
 use native.Mathlib.Omega.{arith}
 use borrow.Author.Needs.{needs}
 use lib.ListN.{length}

@@ -1,5 +1,5 @@
 -- `trials::lines::put_line` meets its contract: the pieces, put one after the other, are the line.
-use Rattle.trials.proofs.Adds.{added-then}
+use Rattle.text.proofs.Adds.{added-then}
 use borrow.Author.Needs.{needs}
 use Rattle.trials.proofs.lines.put_line.Statement.{statement}
 use Rattle.trials.proofs.lines.put_line.Tie as tie

@@ -1,5 +1,5 @@
 -- `trials::lines::put_printed` meets its contract: the line of the answer, and the room after it.
-use Rattle.trials.proofs.Adds.{added-then}
+use Rattle.text.proofs.Adds.{added-then}
 use borrow.Author.Needs.{needs}
 use Rattle.trials.proofs.lines.put_printed.Statement.{statement}
 use Rattle.trials.proofs.lines.put_printed.Tie as tie

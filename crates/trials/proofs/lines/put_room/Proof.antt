@@ -1,6 +1,6 @@
 -- `trials::lines::put_room` meets its contract: a byte, and those after it.
 use native.Mathlib.Omega.{arith}
-use Rattle.trials.proofs.Adds.{nil-of}
+use Rattle.trials.proofs.Lists.{nil-of}
 use Rattle.trials.proofs.Rooms.{room-added}
 use borrow.Author.Needs.{needs}
 use Rattle.trials.proofs.lines.put_room.Statement.{statement}

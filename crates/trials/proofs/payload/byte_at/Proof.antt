@@ -1,6 +1,6 @@
 -- `trials::payload::byte_at` meets its contract: past the end of a list stands 0.
 use mathlib.Core.Path.{sym}
-use Rattle.trials.proofs.Adds.{getD-past}
+use Rattle.trials.proofs.Lists.{getD-past}
 use borrow.Author.Needs.{needs}
 use Rattle.trials.proofs.payload.byte_at.Statement.{statement}
 use Rattle.trials.proofs.payload.byte_at.Tie as tie

@@ -11,7 +11,7 @@ use borrow.Author.Tests.{ltb-true, ltb-false}
 use lib.Dec.{ltb}
 use lib.ListN.{length, getD, take, drop, set, length-append, length-set, take-append-drop}
 use lib.Seq.{sets, take-suc, length-take-le, length-sets}
-use Rattle.trials.specs.Adding.{Added}
+use Rattle.text.specs.Text.{Added}
 
 tested : (m n : ℕ) (b : Bool) → ltb m n ≡ b → (m < n) ⊎ (n ≤ m)
 tested m n true e = inl (ltb-true m n e)
@@ -63,17 +63,6 @@ added-then p q {l} {m} {n} {at} {k} {r} s t =
       text = t .text ∙ o ∙ ap (λ (a : List ℕ). sets a (at + length p) q) (s .text) ∙ sym (sets-append p q l at);
     }
 
--- past the end of a list stands the default
-pub getD-past : (l : List ℕ) (i : ℕ) → length l ≤ i → getD l i 0 ≡ 0
-getD-past [] i h = refl
-getD-past (x ∷ l) zero h = absurd (omega arith)
-getD-past (x ∷ l) (suc i) h = getD-past l i (omega arith)
-
--- a list with something in it is its first and the rest
-pub cons-of : (l : List ℕ) → 0 < length l → l ≡ getD l 0 0 ∷ drop 1 l
-cons-of [] h = absurd (omega arith)
-cons-of (x ∷ l) h = refl
-
-pub nil-of : (l : List ℕ) → length l ≡ 0 → l ≡ []
-nil-of [] h = refl
-nil-of (x ∷ l) h = absurd (omega (arith, h))
+-- what is put, and where it ends, leaves no choice
+pub once : {l p m n : List ℕ} {at k r : ℕ} → Added l at p m k → Added l at p n r → (m ≡ n) × (k ≡ r)
+once s t = (s .text ∙ sym (t .text), s .end ∙ sym (t .end))
