@@ -29,8 +29,9 @@ use Rattle.effect.specs.declared.execute.Considered.{Considered}
 use Rattle.effect.specs.Inner.{consideredOf}
 use Rattle.machine.specs.declared.Machine.{Machine}
 use Rattle.machine.specs.declared.Ran.{Ran}
+use Rattle.machine.specs.declared.Stop.{Stop}
 use Rattle.machine.specs.State.{freshMachine, stateOf}
-use Rattle.machine.specs.Calls.{outOf, runOf, backOf}
+use Rattle.machine.specs.Calls.{saidOf, outOf, runOf, backOf}
 use Rattle.machine.proofs.Named as machine
 use Rattle.job.specs.declared.Refusal.{Refusal}
 use Rattle.job.specs.declared.Refusal.the-variants.{Unsettled, Cells, Short, Unknown, Length, Cut, Space, Order, After, Room}
@@ -85,6 +86,9 @@ consider-once c regs cells s r t = unique
 
 pub fresh-once : (r t : Machine) → r ≡ freshMachine → t ≡ freshMachine → r ≡ t
 fresh-once r t = unique
+
+pub number-once : (x : Stop) (r t : ℕ) → r ≡ saidOf x .number → t ≡ saidOf x .number → r ≡ t
+number-once x r t = unique
 
 -- run, and step, which is a run of budget 1; back, whose journal is the one at entry
 module _ (m : Machine) (cells journal : List ℕ) (n : ℕ) (r t : Ran) (left left' kept kept' : List ℕ) where

@@ -2,7 +2,7 @@
 ghost use mathlib.Core.Path.{_≡_};
 ghost use Prim.Native.Nat.{_≤_};
 ghost use Rattle.machine.specs.State.{freshMachine, stateOf, capacityOf};
-ghost use Rattle.machine.specs.Calls.{checkOf, outOf, runFrom, backFrom, runOf, backOf};
+ghost use Rattle.machine.specs.Calls.{saidOf, checkOf, outOf, runFrom, backFrom, runOf, backOf};
 ghost use Rattle.machine.specs.Inner.{Ready, checkedOf, saidBy};
 
 mod journal;
@@ -58,6 +58,29 @@ pub enum Stop {
     Unsettled,
     Deep,
     Cells,
+}
+
+impl Stop {
+    // A stop's number.
+    pub fn number(self) -> u64
+        ensures { λ r. ⌜ r ≡ saidOf self .number ⌝ }
+    {
+        match self {
+            Stop::Done => 0,
+            Stop::Ended => 1,
+            Stop::Trap => 2,
+            Stop::Int { value: _, imm: _ } => 3,
+            Stop::Fetch => 4,
+            Stop::Fault => 5,
+            Stop::Float => 6,
+            Stop::Full => 7,
+            Stop::Start => 8,
+            Stop::Damaged => 9,
+            Stop::Unsettled => 10,
+            Stop::Deep => 11,
+            Stop::Cells => 12,
+        }
+    }
 }
 
 // What a call leaves beside cells and journal.

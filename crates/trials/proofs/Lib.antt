@@ -3,3 +3,4 @@ pub mod Rooms
 pub mod Steps
 pub mod Progress
 pub mod Picks
+pub mod Stops

@@ -43,72 +43,18 @@ pub(crate) struct Told {
 fn tell(stop: Stop) -> Told
     ensures { λ r. ⌜ toldOf r ≡ saidOf stop ⌝ }
 {
-    match stop {
-        Stop::Done => Told {
-            number: 0,
+    let number = stop.number();
+    let Stop::Int { value, imm } = stop else {
+        return Told {
+            number,
             value: 0,
             imm: 0,
-        },
-        Stop::Ended => Told {
-            number: 1,
-            value: 0,
-            imm: 0,
-        },
-        Stop::Trap => Told {
-            number: 2,
-            value: 0,
-            imm: 0,
-        },
-        Stop::Int { value, imm } => Told {
-            number: 3,
-            value: value as u64,
-            imm: imm as u64,
-        },
-        Stop::Fetch => Told {
-            number: 4,
-            value: 0,
-            imm: 0,
-        },
-        Stop::Fault => Told {
-            number: 5,
-            value: 0,
-            imm: 0,
-        },
-        Stop::Float => Told {
-            number: 6,
-            value: 0,
-            imm: 0,
-        },
-        Stop::Full => Told {
-            number: 7,
-            value: 0,
-            imm: 0,
-        },
-        Stop::Start => Told {
-            number: 8,
-            value: 0,
-            imm: 0,
-        },
-        Stop::Damaged => Told {
-            number: 9,
-            value: 0,
-            imm: 0,
-        },
-        Stop::Unsettled => Told {
-            number: 10,
-            value: 0,
-            imm: 0,
-        },
-        Stop::Deep => Told {
-            number: 11,
-            value: 0,
-            imm: 0,
-        },
-        Stop::Cells => Told {
-            number: 12,
-            value: 0,
-            imm: 0,
-        },
+        };
+    };
+    Told {
+        number,
+        value: value as u64,
+        imm: imm as u64,
     }
 }
 
