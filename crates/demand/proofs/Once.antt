@@ -100,6 +100,9 @@ module _ (m : Machine) (cells journal : List ℕ) (n : ℕ) (r t : Ran) (left le
       → (r ≡ t) × (left ≡ left')
   back-once p q = let w = machine.once _ r t left left' journal journal p q in (w .0, w .1)
 
+pub refusal-once : (why : Refusal) (r t : ℕ) → r ≡ job.numberOf why → t ≡ job.numberOf why → r ≡ t
+refusal-once why r t = unique
+
 -- the refusal of a job by its number, if it is one
 abbrev heard : ℕ → Option Refusal
 heard k =

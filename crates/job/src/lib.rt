@@ -3,7 +3,7 @@ ghost use mathlib.Core.Path.{_≡_};
 ghost use mathlib.Core.Bool.{not};
 ghost use lib.ListN.{length};
 ghost use Rattle.machine.specs.Calls.{badCells};
-ghost use Rattle.job.specs.Job.{loadOf, loadWith};
+ghost use Rattle.job.specs.Job.{numberOf, loadOf, loadWith};
 
 mod little;
 mod reading;
@@ -26,6 +26,26 @@ pub enum Refusal {
     Order,
     After,
     Room,
+}
+
+impl Refusal {
+    // A refusal's number.
+    pub fn number(self) -> u64
+        ensures { λ r. ⌜ r ≡ numberOf self ⌝ }
+    {
+        match self {
+            Refusal::Unsettled => 10,
+            Refusal::Cells => 12,
+            Refusal::Short => 41,
+            Refusal::Unknown => 42,
+            Refusal::Length => 43,
+            Refusal::Cut => 44,
+            Refusal::Space => 45,
+            Refusal::Order => 46,
+            Refusal::After => 47,
+            Refusal::Room => 48,
+        }
+    }
 }
 
 // What a load answers: done, or a refusal with its record's offset.
