@@ -93,12 +93,12 @@ fn put_value(room: &mut [u8], at: usize, register: usize, value: u32) -> usize
 
 // Each register that is not 0, rising.
 fn put_values(room: &mut [u8], at: usize, regs: &[u32]) -> usize
-    requires { ⌜ (length (now regs) ≤ 256) × Fits at (valuesFrom 0 (now regs)) ⌝ }
+    requires { ⌜ (length (now regs) ≡ 256) × Fits at (valuesFrom 0 (now regs)) ⌝ }
     ensures { λ r. ⌜ Stored (now (room .entry)) at (valuesFrom 0 (now (regs .entry))) (now (room .exit)) r ⌝ }
 {
     let mut next = at;
     let mut i = 0;
-    while i < regs.len() {
+    while i < 256 {
         next = put_value(room, next, i, regs[i]);
         i = i + 1;
     }

@@ -19,7 +19,7 @@ slice-aggregate-put-values c = search needs
 put-values-requires : tie.Need-put-values-requires
 put-values-requires c κs =
     let n : length (c .before .before .before .before .before .before .before .before .before .args .machine .regs) ≡ 256 = search needs in
-    (omega arith, omega (arith, runs-short (c .before .before .before .before .before .before .before .before .before .args .cells .now) [] 0, values-short (c .before .before .before .before .before .before .before .before .before .args .machine .regs) 0, c .before .before .before .before .put-runs .ensures .end))
+    (n, omega (arith, runs-short (c .before .before .before .before .before .before .before .before .before .args .cells .now) [] 0, values-short (c .before .before .before .before .before .before .before .before .before .args .machine .regs) 0, c .before .before .before .before .put-runs .ensures .end))
 
 put-setup-requires : tie.Need-put-setup-requires
 put-setup-requires c κs =

@@ -3,7 +3,6 @@
 use Prim.Native.Nat.{_-_, _≤_}
 use native.Mathlib.Omega.{arith}
 use lib.ListN.{length, drop}
-use borrow.Author.Needs.{needs}
 use Rattle.job.specs.Saving.{valuesFrom}
 use Rattle.job.proofs.Pieces.{Left, whole-left, left-turn, left-fits, left-over, left-length, values-turn, values-over}
 use Rattle.job.proofs.writing.put_values.Statement.{statement}
@@ -16,31 +15,31 @@ abbrev μ-loop : tie.MeasureT-loop
 μ-loop room₀ at regs next₀ i₀ room next i = length regs - i
 
 loop-holds : tie.Need-loop-holds Inv-loop μ-loop
-loop-holds c = (search needs, whole-left)
+loop-holds c = (omega arith, whole-left)
 
 mul-put-value : tie.Need-mul-put-value Inv-loop μ-loop
-mul-put-value c = search needs
+mul-put-value c = omega arith
 
 shared-slice-read-put-value : tie.Need-shared-slice-read-put-value Inv-loop μ-loop
-shared-slice-read-put-value c = omega arith
+shared-slice-read-put-value c = omega (arith, c .before .before .before .before .before .before .pre .0)
 
 put-value-requires : tie.Need-put-value-requires Inv-loop μ-loop
-put-value-requires c κs = (omega arith, left-fits (values-turn (c .before .before .before .before .before .before .args .regs .now) (c .before .before .before .loop .i) (c .before .before .loop-test .taken)) (c .before .before .before .loop .inv .1) (c .before .before .before .before .before .before .pre .1))
+put-value-requires c κs = (omega arith, left-fits (values-turn (c .before .before .before .before .before .before .args .regs .now) (c .before .before .before .loop .i) (omega (arith, c .before .before .before .before .before .before .pre .0))) (c .before .before .before .loop .inv .1) (c .before .before .before .before .before .before .pre .1))
 
 add-i : tie.Need-add-i Inv-loop μ-loop
 add-i c = omega arith
 
 loop-less : tie.Need-loop-less Inv-loop μ-loop
-loop-less c = omega arith
+loop-less c = omega (arith, c .before .before .before .before .before .before .before .before .before .pre .0)
 
 loop-again : tie.Need-loop-again Inv-loop μ-loop
-loop-again c = (omega arith, left-turn (values-turn (c .before .before .before .before .before .before .before .before .before .args .regs .now) (c .before .before .before .before .before .before .loop .i) (c .before .before .before .before .before .loop-test .taken)) (c .before .before .before .before .before .before .loop .inv .1) (c .before .before .put-value .ensures))
+loop-again c = (omega (arith, c .before .before .before .before .before .before .before .before .before .pre .0), left-turn (values-turn (c .before .before .before .before .before .before .before .before .before .args .regs .now) (c .before .before .before .before .before .before .loop .i) (omega (arith, c .before .before .before .before .before .before .before .before .before .pre .0))) (c .before .before .before .before .before .before .loop .inv .1) (c .before .before .put-value .ensures))
 
 same-length : tie.Need-same-length Inv-loop μ-loop
 same-length c = left-length (c .before .loop .inv .1)
 
 returns : tie.Need-returns Inv-loop μ-loop
-returns c = left-over (values-over (c .before .before .before .before .args .regs .now) (c .before .loop .i) (c .loop-test .left)) (c .before .loop .inv .1)
+returns c = left-over (values-over (c .before .before .before .before .args .regs .now) (c .before .loop .i) (omega (arith, c .before .before .before .before .pre .0))) (c .before .loop .inv .1)
 
 pub put-values-spec : {M : Type 1} → statement M
 put-values-spec =
