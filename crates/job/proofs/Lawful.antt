@@ -1,6 +1,6 @@
 -- A job that loads gives a lawful machine: 256 registers below 2^32, settings in range, depth 0, and as many cells as before, below 2^32.
 -- Assumes nothing.
-use Prim.Native.Nat.{ℕ, zero, suc, _+_, _-_, _^_, _≤_}
+use Prim.Native.Nat.{ℕ, zero, suc, _+_, _-_, _≤_}
 use mathlib.Core.Path.{_≡_, refl, ap, _∙_}
 use mathlib.Core.Bool.{Bool, true, false, cond, not, _||_}
 use mathlib.Core.Option.{Option, none, some}
@@ -9,7 +9,7 @@ use native.Mathlib.Omega.{arith}
 use lib.Dec.{leb, ltb, eqb}
 use lib.ListN.{length, set, drop, replicate, length-set, length-replicate}
 use lib.Seq.{sets, length-sets}
-use borrow.Author.Tests.{leb-false, ltb-false, eqb-false, not-true}
+use borrow.Author.Tests.{leb-false, eqb-false, not-true}
 use Rattle.effect.specs.declared.Settings.{Settings}
 use Rattle.effect.specs.Operands.{flagsBound}
 use Rattle.effect.specs.Inner.{InRange}
@@ -22,6 +22,7 @@ use Rattle.job.specs.declared.records.Kind.the-variants.{Run, Register, 
 use Rattle.job.specs.declared.records.Past.{Past}
 use Rattle.job.specs.Job.{wordsOf, cellsIn, baseOf, countOf, registerOf, valueOf, settingsIn, knownOf, fitsOf, endsOf, sizeOf, kindOf, payloadOf, inOrder, withinOf, settledIn, pastOf, nothingYet, Course, refused, last, onward, passed, courseOf, Said, refusedAt, endOf, followed, refusalFrom, refusalIn, Content, contentOf, contentFrom, unnamed, loadedBy, loadOf}
 use Rattle.job.proofs.Numbers.{Bytes, bytes-drop, bytes-take, below-4}
+use Rattle.job.proofs.Loading.{not-above}
 use Rattle.job.proofs.Walk.{passing}
 
 -- what the records so far have made
@@ -190,7 +191,7 @@ module _ (job cells : List ℕ) (bytes : Bytes job) (h : Loads job cells) where
       omega arith
 
   pub few-cells : length cells ≤ mostCells
-  few-cells = ltb-false mostCells (length cells) (or-right (eqb (length cells) 0) (ltb mostCells (length cells)) (fine .0))
+  few-cells = not-above (length cells) (fine .0)
 
   made : Good (length cells) (contentFrom (length job) job (unnamed (length cells)))
   made = walked (length job) (length cells) job 0 nothingYet (unnamed (length cells)) bytes (fine .1) (record {

@@ -4,3 +4,5 @@ pub mod Walk
 pub mod Words
 pub mod Loading
 pub mod Lawful
+pub mod Pieces
+pub mod Saving

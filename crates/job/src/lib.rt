@@ -4,15 +4,19 @@ ghost use mathlib.Core.Bool.{not};
 ghost use lib.ListN.{length};
 ghost use Rattle.machine.specs.Calls.{badCells};
 ghost use Rattle.job.specs.Job.{numberOf, loadOf, loadWith};
+ghost use Rattle.job.specs.Saving.{saveOf, saveWith};
 
 mod little;
 mod reading;
 mod records;
+mod writing;
 
 use machine::Machine;
 use reading::carry_out;
 use reading::clear;
 use reading::examine;
+use records::in_range;
+use writing::put_job;
 
 // Why a load or a save is refused: 10, 12 and 41 to 48, in this order.
 pub enum Refusal {
@@ -112,4 +116,23 @@ pub fn load(job: &[u8], cells: &mut [u32]) -> Loaded
             }
         }
     }
+}
+
+// A machine and its cells as a job in the room that the host lends: its length, or a refusal with nothing written. The job's size is what
+// the writer answers where it finds no room.
+pub fn save(machine: Machine, cells: &[u32], room: &mut [u8]) -> Saved
+    ensures { λ r. ⌜ saveWith r (now (room .exit)) ≡ saveOf machine (now (cells .entry)) (now (room .entry)) ⌝ }
+{
+    if !enough_cells(cells.len()) {
+        return Saved::Unsaved(Refusal::Cells);
+    }
+    if !in_range(machine.settings) {
+        return Saved::Unsaved(Refusal::Unsettled);
+    }
+    let size = put_job(&mut room[0..0], machine, cells);
+    if room.len() < size {
+        return Saved::Unsaved(Refusal::Room);
+    }
+    put_job(room, machine, cells);
+    Saved::Written(size)
 }
