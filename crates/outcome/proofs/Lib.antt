@@ -1,0 +1,4 @@
+pub mod Sizes
+pub mod Registers
+pub mod Cases
+pub mod Told

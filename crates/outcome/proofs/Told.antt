@@ -1,0 +1,23 @@
+-- What document 01 says that `runjob` prints, by computation.
+use mathlib.Core.Path.{_≡_, refl}
+use mathlib.Core.List.{[]}
+use Rattle.word.specs.Word.{seOf, exOf, writtenOf, opOf, askedOf}
+use Rattle.cell.specs.Cell.{legal, immediate, formOf, decodeOf}
+use Rattle.text.specs.Text.{bytes, digits, decimal}
+use Rattle.effect.specs.Operands.{operandOf}
+use Rattle.effect.specs.Effect.{flagsOf, operationOf, loadOf, ldstOf, bzOf, registersOf, immediateOf, effectOf, behindOf}
+use Rattle.effect.specs.Refusal.{refusedBy}
+use Rattle.machine.specs.State.{capacityOf, freshMachine}
+use Rattle.machine.specs.Journal.{regsAfter, cellsAfter, settingsAfter, entryOf}
+use Rattle.machine.specs.Calls.{refusalOf, effectIn, courseOf, stepOf, runFrom, checkOf}
+use Rattle.job.specs.Job.{littleOf, numberAt, kindBy, wordsOf, inOrder, courseOf as recordOf, refusalFrom, contentFrom, refusalIn}
+use Rattle.outcome.specs.Outcome.{registersText, ranText, outcomeOf, textOf}
+use Rattle.outcome.specs.Printed.{printedJob}
+
+pub empty-input : textOf [] ≡ bytes "refused 41 at 0\n"
+unfolding digits decimal recordOf refusalFrom refusalIn outcomeOf textOf
+empty-input = refl
+
+pub printed-job : textOf printedJob ≡ bytes "exit 1 steps 3 pc 4294901763 flags 256\nR1 5\n"
+unfolding seOf exOf writtenOf opOf askedOf legal immediate formOf decodeOf digits decimal operandOf flagsOf operationOf loadOf ldstOf bzOf registersOf immediateOf effectOf behindOf refusedBy capacityOf freshMachine regsAfter cellsAfter settingsAfter entryOf refusalOf effectIn courseOf stepOf runFrom checkOf littleOf numberAt kindBy wordsOf inOrder recordOf refusalFrom contentFrom refusalIn registersText ranText outcomeOf textOf printedJob
+printed-job = refl

@@ -1,0 +1,48 @@
+-- `outcome::put_ran` meets its contract: the line of the run, and then those of the registers.
+use lib.ListN.{take}
+use Rattle.effect.specs.Operands.{pcOf}
+use Rattle.outcome.specs.Outcome.{exitText, registersText}
+use Rattle.text.proofs.Adds.{added-then}
+use Rattle.outcome.specs.Outcome.{ranText}
+use Rattle.outcome.proofs.Sizes.{both-short}
+use borrow.Author.Needs.{needs}
+use Rattle.outcome.proofs.put_ran.Statement.{statement}
+use Rattle.outcome.proofs.put_ran.Tie as tie
+
+stop-number-requires : tie.Need-stop-number-requires
+stop-number-requires c κs = search needs
+
+array-read-put-exit : tie.Need-array-read-put-exit
+array-read-put-exit c = search needs
+
+put-exit-requires : tie.Need-put-exit-requires
+put-exit-requires c κs = search needs
+
+put-registers-requires : tie.Need-put-registers-requires
+put-registers-requires c κs = search needs
+
+same-length : tie.Need-same-length
+same-length c = search needs
+
+returns : tie.Need-returns
+unfolding ranText
+returns c = let r = c .before .before .before .before .before .before .before .before .before .before .before .before .before .before .args .ran in
+    rw (← c .before .before .before .before .before .before .before .before .stop-number .ensures)
+    (record {
+      added = added-then _ _ (c .before .before .before .before .before .before .before .put-exit .ensures .0) (c .before .before .put-registers .ensures .0);
+      short =
+          both-short (exitText (c .before .before .before .before .before .before .before .before .stop-number .result) (r .count) (pcOf (r .machine .regs)) (r .machine .settings .flags)) (registersText 0 (take 255 (r .machine .regs)))
+          (c .before .before .before .before .before .before .before .put-exit .ensures .1)
+          (c .before .before .put-registers .ensures .1);
+    })
+
+pub put-ran-spec : {M : Type 1} → statement M
+put-ran-spec =
+    tie.close
+    (tie.spec
+    stop-number-requires
+    array-read-put-exit
+    put-exit-requires
+    put-registers-requires
+    same-length
+    returns)
