@@ -1,14 +1,14 @@
 /* The twin of the program `bench`, as one writes it in C with no proof: the same rules, the same journal, the same line.
  * It only serves to set the proved runner's cost beside it, and shares nothing with the crates.
  *
- *     twin ROUNDS CELLS < JOB
+ *     twin ROUNDS CELLS BACK < JOB
  */
 #include <stdint.h>
 #include <stdio.h>
 #include <stdlib.h>
 #include <string.h>
 
-enum { PC = 255, MOST_CELLS = 16384, MOST_ENTRIES = 65536, STEPS = 65536, MOST_BYTES = 131072 };
+enum { PC = 255, MOST_CELLS = 16384, MOST_ENTRIES = 65536, BUDGET = 65536, MOST_BYTES = 131072 };
 enum { CARRY = 1, BORROW = 2, OVERFLOW = 4, UNDERFLOW = 8, DIVIDE_BY_ZERO = 16, ILLEGAL = 128, TERMINATION = 256 };
 enum stop { DONE, ENDED, TRAP, INTERRUPT, FETCH, FAULT, FLOATS, FULL, START, DAMAGED, UNSETTLED, DEEP, CELLS };
 
@@ -349,6 +349,7 @@ int main(int argc, char **argv)
     static struct machine m;
     uint32_t rounds = argc > 1 ? strtoul(argv[1], 0, 10) : 0;
     size_t size = argc > 2 ? strtoul(argv[2], 0, 10) : 0;
+    uint64_t number = argc > 3 ? strtoul(argv[3], 0, 10) : 0;
     if (size > MOST_CELLS)
         size = MOST_CELLS;
     size_t bytes = fread(job, 1, sizeof job, stdin);
@@ -360,11 +361,11 @@ int main(int argc, char **argv)
     uint64_t forward = 0, backward = 0;
     uint32_t sum = 0;
     for (; rounds > 0; rounds--) {
-        ran = run(&m, cells, size, journal, 8 * MOST_ENTRIES, STEPS);
+        ran = run(&m, cells, size, journal, 8 * MOST_ENTRIES, BUDGET);
         forward += ran.count;
         for (int i = 0; i < 256; i++)
             sum = sum * 31 + m.regs[i];
-        backward += back(&m, cells, size, journal, 8 * MOST_ENTRIES, STEPS).count;
+        backward += back(&m, cells, size, journal, 8 * MOST_ENTRIES, number).count;
     }
     printf("stop %d forward %llu back %llu sum %u\n", ran.stop, (unsigned long long)forward, (unsigned long long)backward, sum);
     return 0;

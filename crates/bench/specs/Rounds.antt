@@ -32,14 +32,14 @@ toldOf t ran returned = record {
   sum = sumFrom (t .sum) (ran .state .regs);
 }
 
--- a round: a budget of 65,536 forward, and then 65,536 back
+-- a round: a budget of 65,536 forward, and then a number back
 unfoldable pub forwardOf : State → Out
 forwardOf s = runOf 65536 s
 
-unfoldable pub returnOf : State → Out
-returnOf s = backOf 65536 (forwardOf s .state)
+unfoldable pub returnOf : ℕ → State → Out
+returnOf number s = backOf number (forwardOf s .state)
 
 -- n rounds more
-unfoldable pub talliedFrom : ℕ → Tally → State → Tally
-talliedFrom zero t s = t
-talliedFrom (suc n) t s = talliedFrom n (toldOf t (forwardOf s) (returnOf s)) (returnOf s .state)
+unfoldable pub talliedFrom : ℕ → ℕ → Tally → State → Tally
+talliedFrom number zero t s = t
+talliedFrom number (suc n) t s = talliedFrom number n (toldOf t (forwardOf s) (returnOf number s)) (returnOf number s .state)

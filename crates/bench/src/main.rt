@@ -1,5 +1,5 @@
-// What a step costs is measured with this program. It loads a job from standard input into as many cells as its second argument
-// says, runs it forward and back as often as its first argument says, and writes one line of what came of it.
+// What a step costs is measured with this program: `bench ROUNDS CELLS BACK < JOB`. It loads the job into as many cells as asked,
+// goes as many rounds as asked, each a run forward of budget 65,536 and so many steps back, and writes one line of what came of it.
 ghost use Prim.Native.Nat.{_≤_};
 ghost use Rattle.io.specs.Counts.{Counts};
 
@@ -56,11 +56,11 @@ fn report(t: Tally) {
 }
 
 // Loads a job and reports on its rounds, or writes that it is refused.
-fn measure(job: &[u8], cells: &mut [u32], journal: &mut [u32], times: u32) {
+fn measure(job: &[u8], cells: &mut [u32], journal: &mut [u32], times: u32, number: u64) {
     let loaded = job::load(job, cells);
     let answer = loaded.answer;
     match answer {
-        Answer::Done => report(rounds::go_round(loaded.machine, cells, journal, times)),
+        Answer::Done => report(rounds::go_round(loaded.machine, cells, journal, times, number)),
         Answer::Refused { why: _, offset: _ } => {
             io::write_all(STDOUT_FILENO, b"refused\n");
         }
@@ -68,10 +68,17 @@ fn measure(job: &[u8], cells: &mut [u32], journal: &mut [u32], times: u32) {
 }
 
 // The same for the job on standard input and a number of cells.
-fn measure_input(room: &mut [u8], cells: &mut [u32], journal: &mut [u32], times: u32, size: usize) {
+fn measure_input(
+    room: &mut [u8],
+    cells: &mut [u32],
+    journal: &mut [u32],
+    size: usize,
+    times: u32,
+    number: u64,
+) {
     let n = io::read_full(STDIN_FILENO, room);
     let m = least(size, cells);
-    measure(&room[..n], &mut cells[..m], journal, times);
+    measure(&room[..n], &mut cells[..m], journal, times, number);
 }
 
 // The same, with all the room that the program has.
@@ -79,21 +86,19 @@ fn measure_all(
     room: &mut [u8; 131072],
     cells: &mut [u32; 16384],
     journal: &mut [u32; 524288],
-    times: u32,
     size: usize,
+    times: u32,
+    number: u64,
 ) {
-    measure_input(room, cells, journal, times, size);
+    measure_input(room, cells, journal, size, times, number);
 }
 
 fn main() {
     let mut room = [0u8; 131072];
     let mut cells = [0u32; 16384];
     let mut journal = [0u32; 524288];
-    measure_all(
-        &mut room,
-        &mut cells,
-        &mut journal,
-        argument(1),
-        argument(2) as usize,
-    );
+    let times = argument(1);
+    let size = argument(2) as usize;
+    let number = argument(3) as u64;
+    measure_all(&mut room, &mut cells, &mut journal, size, times, number);
 }

@@ -7,8 +7,8 @@ use machine::Machine;
 use machine::Ran;
 use machine::Stop;
 
-// How far a round goes, forward and back.
-const STEPS: u64 = 65536;
+// How far a round goes forward.
+const BUDGET: u64 = 65536;
 
 // What is told: the last stop forward, the steps forward and back of all rounds, and the sum of the registers.
 pub(crate) struct Tally {
@@ -67,9 +67,15 @@ fn add_up(told: Tally, ran: Ran, back: u64) -> Tally
     }
 }
 
-// The tally after as many rounds as asked.
-pub(crate) fn go_round(m: Machine, cells: &mut [u32], journal: &mut [u32], times: u32) -> Tally
-    ensures { λ r. ⌜ r ≡ talliedFrom times noneYet (stateOf m (now (cells .entry)) (now (journal .entry))) ⌝ }
+// The tally after as many rounds as asked, of a run forward and as many steps back as asked.
+pub(crate) fn go_round(
+    m: Machine,
+    cells: &mut [u32],
+    journal: &mut [u32],
+    times: u32,
+    number: u64,
+) -> Tally
+    ensures { λ r. ⌜ r ≡ talliedFrom number times noneYet (stateOf m (now (cells .entry)) (now (journal .entry))) ⌝ }
 {
     let mut state = m;
     let mut told = Tally {
@@ -80,8 +86,8 @@ pub(crate) fn go_round(m: Machine, cells: &mut [u32], journal: &mut [u32], times
     };
     let mut left = times;
     while 0 < left {
-        let ran = machine::run(state, cells, journal, STEPS);
-        let returned = machine::back(ran.machine, cells, journal, STEPS);
+        let ran = machine::run(state, cells, journal, BUDGET);
+        let returned = machine::back(ran.machine, cells, journal, number);
         told = add_up(told, ran, returned.count);
         state = returned.machine;
         left -= 1;

@@ -12,10 +12,10 @@ use Rattle.bench.proofs.rounds.go_round.Statement.{statement}
 use Rattle.bench.proofs.rounds.go_round.Tie as tie
 
 abbrev Inv-loop : tie.InvT-loop
-Inv-loop cells₀ journal₀ times state₀ told₀ left₀ cells journal state told left = (talliedFrom left told (stateOf state cells journal) ≡ talliedFrom times noneYet (stateOf state₀ cells₀ journal₀)) × (length cells ≡ length cells₀) × (length journal ≡ length journal₀)
+Inv-loop cells₀ journal₀ times number state₀ told₀ left₀ cells journal state told left = (talliedFrom number left told (stateOf state cells journal) ≡ talliedFrom number times noneYet (stateOf state₀ cells₀ journal₀)) × (length cells ≡ length cells₀) × (length journal ≡ length journal₀)
 
 abbrev μ-loop : tie.MeasureT-loop
-μ-loop cells₀ journal₀ times state₀ told₀ left₀ cells journal state told left = left
+μ-loop cells₀ journal₀ times number state₀ told₀ left₀ cells journal state told left = left
 
 loop-holds : tie.Need-loop-holds Inv-loop μ-loop
 loop-holds c = (refl, refl, refl)
@@ -41,7 +41,7 @@ loop-again c = let l = c .before .before .before .before .before .before .before
     let returned = c .before .before .before .before .back in
     let out = outOf (ran .result) (ran .last .1 .0) (ran .last .1 .1 .0) in
     let home = outOf (returned .result) (returned .last .1 .0) (ran .last .1 .1 .0) in (
-      round-step (l .left) (l .told) _ (stateOf (l .state) (l .cells) (l .journal)) out home (c .before .before .before .before .before .before .before .before .before .before .before .before .before .before .loop-test .taken) (ran .ensures) (returned .ensures) (c .before .add-up .ensures) ∙ l .inv .0,
+      round-step _ (l .left) (l .told) _ (stateOf (l .state) (l .cells) (l .journal)) out home (c .before .before .before .before .before .before .before .before .before .before .before .before .before .before .loop-test .taken) (ran .ensures) (returned .ensures) (c .before .add-up .ensures) ∙ l .inv .0,
       returned .kept .1 .0 ∙ ran .kept .1 .0 ∙ l .inv .1,
       ran .kept .1 .1 .0 ∙ l .inv .2,
     )
@@ -53,7 +53,7 @@ same-length-2 : tie.Need-same-length-2 Inv-loop μ-loop
 same-length-2 c = search needs
 
 returns : tie.Need-returns Inv-loop μ-loop
-returns c = sym (round-none (c .before .loop .left) (c .before .loop .told) _ (omega arith)) ∙ c .before .loop .inv .0
+returns c = sym (round-none _ (c .before .loop .left) (c .before .loop .told) _ (omega arith)) ∙ c .before .loop .inv .0
 
 pub go-round-spec : {M : Type 1} → statement M
 go-round-spec =
