@@ -1,0 +1,372 @@
+/* The twin of the program `bench`, as one writes it in C with no proof: the same rules, the same journal, the same line.
+ * It only serves to set the proved runner's cost beside it, and shares nothing with the crates.
+ *
+ *     twin ROUNDS CELLS BACK < JOB
+ */
+#include <stdint.h>
+#include <stdio.h>
+#include <stdlib.h>
+#include <string.h>
+
+enum { PC = 255, MOST_CELLS = 16384, MOST_ENTRIES = 65536, BUDGET = 65536, MOST_BYTES = 131072 };
+enum { CARRY = 1, BORROW = 2, OVERFLOW = 4, UNDERFLOW = 8, DIVIDE_BY_ZERO = 16, ILLEGAL = 128, TERMINATION = 256 };
+enum stop { DONE, ENDED, TRAP, INTERRUPT, FETCH, FAULT, FLOATS, FULL, START, DAMAGED, UNSETTLED, DEEP, CELLS };
+
+#define FIRST_SPECIAL 0xFFFF0000u
+#define MASK_ADDRESS 0xFFFF0001u
+#define MODE_ADDRESS 0xFFFF0002u
+
+struct machine {
+    uint32_t regs[256];
+    uint32_t flags, mask, mode, depth;
+};
+
+/* What a call leaves beside the machine; value and imm are INT's. */
+struct ran {
+    enum stop stop;
+    uint32_t value, imm;
+    uint64_t count;
+};
+
+static uint32_t se(uint32_t x) { return (uint32_t)(int32_t)(int16_t)x; }
+
+static uint32_t ex(uint32_t x)
+{
+    uint32_t exponent = x >> 10 & 31;
+    if (exponent >= 16)
+        exponent += 224;
+    return x >> 15 << 31 | exponent << 23 | (x & 1023) << 13;
+}
+
+/* Once a call: 12, 10, 11; DONE if none of them. */
+static enum stop check(const struct machine *m, size_t size, uint32_t capacity)
+{
+    if (size == 0 || size > MOST_CELLS)
+        return CELLS;
+    if (m->flags > 511 || m->mask > 511 || m->mode > 3)
+        return UNSETTLED;
+    return m->depth > capacity ? DEEP : DONE;
+}
+
+static uint32_t capacity_of(size_t words) { return words / 8 < MOST_ENTRIES ? words / 8 : MOST_ENTRIES; }
+
+/* An entry's words that depend on the instruction; the others are PC and settings. */
+static void enter(uint32_t *entry, uint32_t ab, uint32_t a, uint32_t b, uint32_t address, uint32_t old, uint32_t uses)
+{
+    entry[2] = ab;
+    entry[3] = a;
+    entry[4] = b;
+    entry[5] = address;
+    entry[6] = old;
+    entry[7] = uses;
+}
+
+static int faults(uint32_t p, size_t size) { return p >= size && p < FIRST_SPECIAL; }
+
+static int illegal_store(uint32_t p, uint32_t v)
+{
+    return p >= FIRST_SPECIAL && !(p == MASK_ADDRESS && v < 512) && !(p == MODE_ADDRESS && v < 4);
+}
+
+/* One step. Answers DONE if the run goes on. A refused step writes nothing. */
+static inline enum stop step(struct machine *m, uint32_t *cells, size_t size, uint32_t *journal, uint32_t capacity, struct ran *ran)
+{
+    uint32_t *regs = m->regs, pc = regs[PC];
+    if (pc >= FIRST_SPECIAL)
+        return ENDED;
+    if (pc >= size)
+        return FETCH;
+    if (m->depth >= capacity)
+        return FULL;
+
+    uint32_t cell = cells[pc], opcode = cell >> 24, n = cell >> 16 & 255, r = cell >> 8 & 255, l = cell & 255, imm = cell & 65535;
+    uint32_t next = pc + 1;
+    uint32_t rn = n == PC ? next : regs[n];
+    uint32_t x, y; /* the operation's operands */
+    if (opcode >= 35 && opcode <= 53) {
+        x = rn;
+        y = se(imm);
+    } else {
+        x = r == PC ? next : regs[r];
+        y = l == PC ? next : regs[l];
+    }
+
+    uint32_t *entry = journal + 8 * (size_t)m->depth;
+    uint32_t settings = m->flags + 512 * m->mask + 262144 * m->mode;
+    uint32_t value = 0, governed = 0, raised = 0;
+    uint64_t whole;
+    enum stop after = DONE;
+
+    switch (opcode) {
+    case 0:
+        enter(entry, n | l << 8, regs[n], regs[l], 0, 0, 3);
+        regs[PC] = next;
+        regs[l] = rn;
+        regs[n] = x;
+        goto done;
+    case 1:
+        if (faults(y, size) || faults(x, size))
+            return FAULT;
+        if (y > MODE_ADDRESS || illegal_store(x, rn))
+            goto illegal;
+        value = y < FIRST_SPECIAL ? cells[y] : y == FIRST_SPECIAL ? m->flags : y == MASK_ADDRESS ? m->mask : m->mode;
+        enter(entry, y ? n : 0, y ? regs[n] : 0, 0, 0, 0, y != 0);
+        if (x == MASK_ADDRESS) {
+            m->mask = rn;
+        } else if (x == MODE_ADDRESS) {
+            m->mode = rn;
+        } else if (x) {
+            entry[5] = x;
+            entry[6] = cells[x];
+            entry[7] += 4;
+            cells[x] = rn;
+        }
+        regs[PC] = next;
+        if (y)
+            regs[n] = value;
+        goto done;
+    case 3: value = (rn & 0xFFFF0000u) | imm; break;
+    case 4: value = imm << 16 | (rn & 65535); break;
+    case 5: value = imm; break;
+    case 6: value = se(imm); break;
+    case 7: value = ex(imm); break;
+    case 16: case 35: whole = (uint64_t)x + y; goto sum;
+    case 17: case 36: whole = (uint64_t)x + y + (m->flags & CARRY); goto sum;
+    sum:
+        value = (uint32_t)whole;
+        governed = CARRY | OVERFLOW;
+        raised = whole >> 32 ? governed : 0;
+        break;
+    case 18: case 37: whole = y; goto difference;
+    case 19: case 38: whole = (uint64_t)y + (m->flags >> 1 & 1); goto difference;
+    difference:
+        value = x - (uint32_t)whole;
+        governed = BORROW | OVERFLOW;
+        raised = x < whole ? governed : 0;
+        break;
+    case 20: case 39:
+        whole = (uint64_t)x * y;
+        value = (uint32_t)whole;
+        governed = OVERFLOW;
+        raised = whole >> 32 ? governed : 0;
+        break;
+    case 21: case 40:
+        governed = DIVIDE_BY_ZERO;
+        value = y ? x / y : rn;
+        raised = y ? 0 : governed;
+        break;
+    case 22: case 41:
+        governed = DIVIDE_BY_ZERO | OVERFLOW;
+        if (y == 0) {
+            value = rn;
+            raised = DIVIDE_BY_ZERO;
+        } else if (x == 0x80000000u && y == 0xFFFFFFFFu) {
+            value = x;
+            raised = OVERFLOW;
+        } else {
+            value = (uint32_t)((int32_t)x / (int32_t)y);
+        }
+        break;
+    case 23: case 42:
+        governed = DIVIDE_BY_ZERO;
+        value = y ? x % y : rn;
+        raised = y ? 0 : governed;
+        break;
+    case 24: case 43: value = x & y; break;
+    case 25: case 44: value = x | y; break;
+    case 26: case 45: value = x ^ y; break;
+    case 27: value = ~(x & y); break;
+    case 28: value = x == 0 || y == 0; break;
+    case 29: case 46:
+        governed = OVERFLOW;
+        value = y > 31 ? 0 : x << y;
+        raised = y > 31 ? governed : 0;
+        break;
+    case 30: case 47:
+        governed = UNDERFLOW;
+        value = y > 31 ? 0 : x >> y;
+        raised = y > 31 ? governed : 0;
+        break;
+    case 31: case 48:
+        governed = UNDERFLOW;
+        value = (uint32_t)((int32_t)x >> (y > 31 ? 31 : y));
+        raised = y > 31 ? governed : 0;
+        break;
+    case 32: case 49: value = x > y; break;
+    case 33: case 50: value = (int32_t)x > (int32_t)y; break;
+    case 34: case 51: value = x == y; break;
+    case 52: value = y > x; break;
+    case 53: value = (int32_t)y > (int32_t)x; break;
+    case 54:
+    case 107:
+        enter(entry, r | l << 8, regs[r], regs[l], 0, 0, 3);
+        regs[PC] = next;
+        regs[r] = opcode == 54 ? se(rn) : ex(rn & 65535);
+        regs[l] = opcode == 54 ? se(rn >> 16) : ex(rn >> 16);
+        goto done;
+    case 121:
+        enter(entry, 0, 0, 0, 0, 0, 0);
+        regs[PC] = rn == 0 ? next + se(imm) : next;
+        goto done;
+    case 122:
+        enter(entry, 0, 0, 0, 0, 0, 0);
+        regs[PC] = next;
+        ran->value = rn;
+        ran->imm = imm;
+        after = INTERRUPT;
+        goto done;
+    default:
+        if (opcode >= 80 && opcode <= 106)
+            return FLOATS;
+    illegal:
+        enter(entry, 0, 0, 0, 0, 0, 0);
+        regs[PC] = next;
+        m->flags |= ILLEGAL;
+        raised = ILLEGAL;
+        goto done;
+    }
+
+    /* one register */
+    enter(entry, n, regs[n], 0, 0, 0, 1);
+    regs[PC] = next;
+    regs[n] = value;
+    m->flags = (m->flags & ~governed) | raised;
+done:
+    entry[0] = pc;
+    entry[1] = settings;
+    m->depth++;
+    if (regs[PC] >= FIRST_SPECIAL) {
+        m->flags |= TERMINATION;
+        return ENDED;
+    }
+    return after == DONE && (raised & m->mask) ? TRAP : after;
+}
+
+__attribute__((noinline)) static struct ran run(struct machine *m, uint32_t *cells, size_t size, uint32_t *journal, size_t words, uint64_t budget)
+{
+    uint32_t capacity = capacity_of(words);
+    struct ran ran = {check(m, size, capacity), 0, 0, 0};
+    while (ran.stop == DONE && ran.count < budget) {
+        uint32_t depth = m->depth;
+        ran.stop = step(m, cells, size, journal, capacity, &ran);
+        ran.count += m->depth - depth;
+    }
+    return ran;
+}
+
+/* The last step is taken back. */
+static inline enum stop undo(struct machine *m, uint32_t *cells, size_t size, const uint32_t *journal)
+{
+    if (m->depth == 0)
+        return START;
+    const uint32_t *entry = journal + 8 * (size_t)(m->depth - 1);
+    uint32_t settings = entry[1], ab = entry[2], uses = entry[7];
+    if (entry[0] >= size || settings >= 1u << 20 || ab >= 65536 || uses > 7)
+        return DAMAGED;
+    if (uses & 4) {
+        if (entry[5] == 0 || entry[5] >= size)
+            return DAMAGED;
+        cells[entry[5]] = entry[6];
+    }
+    if (uses & 1)
+        m->regs[ab & 255] = entry[3];
+    if (uses & 2)
+        m->regs[ab >> 8] = entry[4];
+    m->flags = settings & 511;
+    m->mask = settings >> 9 & 511;
+    m->mode = settings >> 18;
+    m->regs[PC] = entry[0];
+    m->depth--;
+    return DONE;
+}
+
+__attribute__((noinline)) static struct ran back(struct machine *m, uint32_t *cells, size_t size, const uint32_t *journal, size_t words, uint64_t number)
+{
+    struct ran ran = {check(m, size, capacity_of(words)), 0, 0, 0};
+    while (ran.stop == DONE && ran.count < number) {
+        ran.stop = undo(m, cells, size, journal);
+        ran.count += ran.stop == DONE;
+    }
+    return ran;
+}
+
+static uint32_t little(const uint8_t *p, int n)
+{
+    uint32_t x = 0;
+    while (n-- > 0)
+        x = x << 8 | p[n];
+    return x;
+}
+
+/* Loads a job that keeps the rules of the format; answers 0 for one that does not. */
+static int load(struct machine *m, uint32_t *cells, size_t size, const uint8_t *job, size_t bytes)
+{
+    size_t at = 0, end = 0;
+    uint32_t kind = 0, least = 0;
+    memset(m, 0, sizeof *m);
+    m->mode = 3;
+    memset(cells, 0, size * sizeof *cells);
+    for (;;) {
+        if (bytes - at < 6)
+            return 0;
+        uint32_t length = little(job + at, 4), now = little(job + at + 4, 2);
+        const uint8_t *payload = job + at + 6;
+        if (now < kind || now < 1 || now > 4 || length > bytes - at - 6)
+            return 0;
+        if (now == 1) {
+            uint32_t base = length < 6 ? 0 : little(payload, 2), count = (length - 2) / 4;
+            if (length < 6 || length % 4 != 2 || length > 65538 || base < end || base + count > size)
+                return 0;
+            for (uint32_t i = 0; i < count; i++)
+                cells[base + i] = little(payload + 2 + 4 * i, 4);
+            end = base + count;
+        } else if (now == 2) {
+            if (length != 5 || payload[0] < least)
+                return 0;
+            m->regs[payload[0]] = little(payload + 1, 4);
+            least = payload[0] + 1u;
+        } else if (now == 3) {
+            if (length != 5 || kind == 3)
+                return 0;
+            m->flags = little(payload, 2);
+            m->mask = little(payload + 2, 2);
+            m->mode = payload[4];
+            if (m->flags > 511 || m->mask > 511 || m->mode > 3)
+                return 0;
+        } else {
+            return length == 0 && at + 6 == bytes;
+        }
+        kind = now;
+        at += 6 + length;
+    }
+}
+
+static uint8_t job[MOST_BYTES];
+static uint32_t cells[MOST_CELLS], journal[8 * MOST_ENTRIES];
+
+int main(int argc, char **argv)
+{
+    static struct machine m;
+    uint32_t rounds = argc > 1 ? strtoul(argv[1], 0, 10) : 0;
+    size_t size = argc > 2 ? strtoul(argv[2], 0, 10) : 0;
+    uint64_t number = argc > 3 ? strtoul(argv[3], 0, 10) : 0;
+    if (size > MOST_CELLS)
+        size = MOST_CELLS;
+    size_t bytes = fread(job, 1, sizeof job, stdin);
+    if (size == 0 || !load(&m, cells, size, job, bytes)) {
+        puts("refused");
+        return 0;
+    }
+    struct ran ran = {DONE, 0, 0, 0};
+    uint64_t forward = 0, backward = 0;
+    uint32_t sum = 0;
+    for (; rounds > 0; rounds--) {
+        ran = run(&m, cells, size, journal, 8 * MOST_ENTRIES, BUDGET);
+        forward += ran.count;
+        for (int i = 0; i < 256; i++)
+            sum = sum * 31 + m.regs[i];
+        backward += back(&m, cells, size, journal, 8 * MOST_ENTRIES, number).count;
+    }
+    printf("stop %d forward %llu back %llu sum %u\n", ran.stop, (unsigned long long)forward, (unsigned long long)backward, sum);
+    return 0;
+}

@@ -1,0 +1,96 @@
+// Rounds of a run forward and a run back, and what is told of them.
+ghost use mathlib.Core.Path.{_≡_};
+ghost use Rattle.machine.specs.State.{stateOf};
+ghost use Rattle.machine.specs.Calls.{saidOf};
+ghost use Rattle.bench.specs.Rounds.{sumFrom, noneYet, addedUp, talliedFrom};
+use machine::Machine;
+use machine::Ran;
+use machine::Stop;
+
+// How far a round goes forward.
+const BUDGET: u64 = 65536;
+
+// What is told: the last stop forward, the steps forward and back of all rounds, and the sum of the registers.
+pub(crate) struct Tally {
+    pub stop: u8,
+    pub forward: u64,
+    pub back: u64,
+    pub sum: u32,
+}
+
+// A stop's number.
+fn number_of(stop: Stop) -> u8
+    ensures { λ r. ⌜ r ≡ saidOf stop .number ⌝ }
+{
+    match stop {
+        Stop::Done => 0,
+        Stop::Ended => 1,
+        Stop::Trap => 2,
+        Stop::Int { value: _, imm: _ } => 3,
+        Stop::Fetch => 4,
+        Stop::Fault => 5,
+        Stop::Float => 6,
+        Stop::Full => 7,
+        Stop::Start => 8,
+        Stop::Damaged => 9,
+        Stop::Unsettled => 10,
+        Stop::Deep => 11,
+        Stop::Cells => 12,
+    }
+}
+
+// The sum x after the registers: X*31 + register, modulo 2^32, over them in order.
+fn sum(x: u32, words: &[u32]) -> u32
+    ensures { λ r. ⌜ r ≡ sumFrom x (now (words .entry)) ⌝ }
+{
+    let mut total = x as u64;
+    let mut i = 0;
+    while i < words.len() {
+        total = (total * 31 + words[i] as u64) % 4294967296;
+        i += 1;
+    }
+    total as u32
+}
+
+// The tally after a round whose run forward and number of steps back are given.
+fn add_up(told: Tally, ran: Ran, back: u64) -> Tally
+    ensures { λ r. ⌜ r ≡ addedUp told ran back ⌝ }
+{
+    let m = ran.machine;
+    let regs = m.regs;
+    let stop = ran.stop;
+    Tally {
+        stop: number_of(stop),
+        forward: std::num::wrapping_add_u64(told.forward, ran.count),
+        back: std::num::wrapping_add_u64(told.back, back),
+        sum: sum(told.sum, &regs),
+    }
+}
+
+// The tally after as many rounds as asked, of a run forward and as many steps back as asked.
+pub(crate) fn go_round(
+    m: Machine,
+    cells: &mut [u32],
+    journal: &mut [u32],
+    times: u32,
+    number: u64,
+) -> Tally
+    ensures { λ r. ⌜ r ≡ talliedFrom number times noneYet (stateOf m (now (cells .entry)) (now (journal .entry))) ⌝ }
+{
+    let mut state = m;
+    let mut told = Tally {
+        stop: 0,
+        forward: 0,
+        back: 0,
+        sum: 0,
+    };
+    let mut left = times;
+    while 0 < left {
+        let ran = machine::run(state, cells, journal, BUDGET);
+        let returned = machine::back(ran.machine, cells, journal, number);
+        told = add_up(told, ran, returned.count);
+        state = returned.machine;
+        left -= 1;
+    }
+    told
+}
