@@ -4,10 +4,8 @@
 -- Assumes nothing.
 use Prim.Native.Nat.{ℕ}
 use mathlib.Core.Path.{_≡_, refl, sym, ap, _∙_}
-use mathlib.Core.Bool.{cond}
 use mathlib.Core.Option.{Option, none, some}
 use mathlib.Core.List.{List}
-use lib.Dec.{eqb}
 use Rattle.word.specs.declared.Op.{Op}
 use Rattle.word.specs.declared.Asked.{Asked}
 use Rattle.word.specs.declared.Written.{Written}
@@ -34,7 +32,6 @@ use Rattle.machine.specs.State.{freshMachine, stateOf}
 use Rattle.machine.specs.Calls.{saidOf, outOf, runOf, backOf}
 use Rattle.machine.proofs.Named as machine
 use Rattle.job.specs.declared.Refusal.{Refusal}
-use Rattle.job.specs.declared.Refusal.the-variants.{Unsettled, Cells, Short, Unknown, Length, Cut, Space, Order, After, Room}
 use Rattle.job.specs.declared.Answer.{Answer}
 use Rattle.job.specs.declared.Answer.the-variants.{Done, Refused}
 use Rattle.job.specs.declared.Loaded.{Loaded}
@@ -42,6 +39,7 @@ use Rattle.job.specs.declared.Saved.{Saved}
 use Rattle.job.specs.declared.Saved.the-variants as save
 use Rattle.job.specs.Job as job
 use Rattle.job.specs.Saving as saving
+use Rattle.job.proofs.Named.{heard, heard-number}
 
 -- two that equal one thing are equal
 pub unique : {A : Type 0} {x y z : A} → x ≡ z → y ≡ z → x ≡ y
@@ -102,32 +100,6 @@ module _ (m : Machine) (cells journal : List ℕ) (n : ℕ) (r t : Ran) (left le
 
 pub refusal-once : (why : Refusal) (r t : ℕ) → r ≡ job.numberOf why → t ≡ job.numberOf why → r ≡ t
 refusal-once why r t = unique
-
--- the refusal of a job by its number, if it is one
-abbrev heard : ℕ → Option Refusal
-heard k =
-    cond (eqb k 0) none
-    (some (cond (eqb k 10) Unsettled
-    (cond (eqb k 12) Cells
-    (cond (eqb k 41) Short
-    (cond (eqb k 42) Unknown
-    (cond (eqb k 43) Length
-    (cond (eqb k 44) Cut
-    (cond (eqb k 45) Space
-    (cond (eqb k 46) Order
-    (cond (eqb k 47) After Room))))))))))
-
-heard-number : (why : Refusal) → heard (job.numberOf why) ≡ some why
-heard-number Unsettled = refl
-heard-number Cells = refl
-heard-number Short = refl
-heard-number Unknown = refl
-heard-number Length = refl
-heard-number Cut = refl
-heard-number Space = refl
-heard-number Order = refl
-heard-number After = refl
-heard-number Room = refl
 
 -- what a load and a save answered, from what they said
 abbrev answered : Option Refusal → ℕ → Answer

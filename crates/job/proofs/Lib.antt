@@ -6,3 +6,4 @@ pub mod Loading
 pub mod Lawful
 pub mod Pieces
 pub mod Saving
+pub mod Named

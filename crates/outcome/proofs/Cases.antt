@@ -11,23 +11,10 @@ use Rattle.machine.specs.Calls.{runOf}
 use Rattle.job.specs.declared.Loaded.{Loaded}
 use Rattle.job.specs.declared.Answer.the-variants.{Done, Refused}
 use Rattle.job.specs.declared.Refusal.{Refusal}
-use Rattle.job.specs.declared.Refusal.the-variants.{Unsettled, Cells, Short, Unknown, Length, Cut, Space, Order, After, Room}
 use Rattle.job.specs.Job.{loadOf, loadWith, numberOf}
+use Rattle.job.proofs.Named.{numbered}
 use Rattle.text.proofs.Adds.{once as added-once}
 use Rattle.outcome.specs.Outcome.{Outcome, refusedWith, ranWith, outcomeOf, Leaves}
-
--- no refusal has the number 0
-numbered : (why : Refusal) → eqb (numberOf why) 0 ≡ false
-numbered Unsettled = refl
-numbered Cells = refl
-numbered Short = refl
-numbered Unknown = refl
-numbered Length = refl
-numbered Cut = refl
-numbered Space = refl
-numbered Order = refl
-numbered After = refl
-numbered Room = refl
 
 module _ (input cells journal : List ℕ) where
   pub outcome-long : 32768 < length input → outcomeOf input cells journal ≡ refusedWith 50 32768 cells journal

@@ -3,13 +3,10 @@ ghost use mathlib.Core.Path.{_≡_};
 ghost use Prim.Native.Nat.{_≤_, _<_};
 ghost use lib.ListN.{length, take};
 ghost use Rattle.machine.specs.Calls.{saidOf};
-ghost use Rattle.job.specs.Job.{numberOf};
 ghost use Rattle.text.specs.Text.{Added};
 ghost use Rattle.outcome.specs.Outcome.{refusedText, exitText, registerText, registersText, ranText, outcomeOf, Told, Leaves};
 use job::Answer;
-use job::Refusal;
 use machine::Ran;
-use machine::Stop;
 use text::put;
 use text::put_number;
 
@@ -17,45 +14,6 @@ use text::put_number;
 const MOST_INPUT: usize = 32768;
 
 const BUDGET: u64 = 400;
-
-// A stop's number.
-fn stop_number(stop: Stop) -> u64
-    ensures { λ r. ⌜ r ≡ saidOf stop .number ⌝ }
-{
-    match stop {
-        Stop::Done => 0,
-        Stop::Ended => 1,
-        Stop::Trap => 2,
-        Stop::Int { value: _, imm: _ } => 3,
-        Stop::Fetch => 4,
-        Stop::Fault => 5,
-        Stop::Float => 6,
-        Stop::Full => 7,
-        Stop::Start => 8,
-        Stop::Damaged => 9,
-        Stop::Unsettled => 10,
-        Stop::Deep => 11,
-        Stop::Cells => 12,
-    }
-}
-
-// A refusal's number.
-fn refusal_number(why: Refusal) -> u64
-    ensures { λ r. ⌜ r ≡ numberOf why ⌝ }
-{
-    match why {
-        Refusal::Unsettled => 10,
-        Refusal::Cells => 12,
-        Refusal::Short => 41,
-        Refusal::Unknown => 42,
-        Refusal::Length => 43,
-        Refusal::Cut => 44,
-        Refusal::Space => 45,
-        Refusal::Order => 46,
-        Refusal::After => 47,
-        Refusal::Room => 48,
-    }
-}
 
 // Puts the line of a refusal.
 fn put_refused(text: &mut [u8], number: u64, offset: u64) -> usize
@@ -115,13 +73,7 @@ fn put_ran(text: &mut [u8], ran: Ran) -> usize
     let stop = ran.stop;
     let regs = m.regs;
     let settings = m.settings;
-    let a = put_exit(
-        text,
-        stop_number(stop),
-        ran.count,
-        regs[255],
-        settings.flags,
-    );
+    let a = put_exit(text, stop.number(), ran.count, regs[255], settings.flags);
     put_registers(text, a, &regs)
 }
 
@@ -136,7 +88,7 @@ pub fn run_job(input: &[u8], cells: &mut [u32], journal: &mut [u32], text: &mut 
     let loaded = job::load(input, cells);
     let answer = loaded.answer;
     match answer {
-        Answer::Refused { why, offset } => put_refused(text, refusal_number(why), offset as u64),
+        Answer::Refused { why, offset } => put_refused(text, why.number(), offset as u64),
         Answer::Done => {
             let ran = machine::run(loaded.machine, cells, journal, BUDGET);
             put_ran(text, ran)

@@ -9,8 +9,8 @@ use borrow.Author.Needs.{needs}
 use Rattle.outcome.proofs.put_ran.Statement.{statement}
 use Rattle.outcome.proofs.put_ran.Tie as tie
 
-stop-number-requires : tie.Need-stop-number-requires
-stop-number-requires c κs = search needs
+number-requires : tie.Need-number-requires
+number-requires c κs = search needs
 
 array-read-put-exit : tie.Need-array-read-put-exit
 array-read-put-exit c = search needs
@@ -27,11 +27,11 @@ same-length c = search needs
 returns : tie.Need-returns
 unfolding ranText
 returns c = let r = c .before .before .before .before .before .before .before .before .before .before .before .before .before .before .args .ran in
-    rw (← c .before .before .before .before .before .before .before .before .stop-number .ensures)
+    rw (← c .before .before .before .before .before .before .before .before .number .ensures)
     (record {
       added = added-then _ _ (c .before .before .before .before .before .before .before .put-exit .ensures .0) (c .before .before .put-registers .ensures .0);
       short =
-          both-short (exitText (c .before .before .before .before .before .before .before .before .stop-number .result) (r .count) (pcOf (r .machine .regs)) (r .machine .settings .flags)) (registersText 0 (take 255 (r .machine .regs)))
+          both-short (exitText (c .before .before .before .before .before .before .before .before .number .result) (r .count) (pcOf (r .machine .regs)) (r .machine .settings .flags)) (registersText 0 (take 255 (r .machine .regs)))
           (c .before .before .before .before .before .before .before .put-exit .ensures .1)
           (c .before .before .put-registers .ensures .1);
     })
@@ -40,7 +40,7 @@ pub put-ran-spec : {M : Type 1} → statement M
 put-ran-spec =
     tie.close
     (tie.spec
-    stop-number-requires
+    number-requires
     array-read-put-exit
     put-exit-requires
     put-registers-requires

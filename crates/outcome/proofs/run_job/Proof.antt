@@ -22,8 +22,8 @@ load-requires c κs = search needs
 enum-known-answer : tie.Need-enum-known-answer
 enum-known-answer c = search needs
 
-refusal-number-requires : tie.Need-refusal-number-requires
-refusal-number-requires c κs = search needs
+number-requires : tie.Need-number-requires
+number-requires c κs = search needs
 
 put-refused-requires-2 : tie.Need-put-refused-requires-2
 put-refused-requires-2 c κs = search needs
@@ -45,7 +45,7 @@ same-length-3 c = search needs
 
 returns-2 : tie.Need-returns-2
 returns-2 c = let a = c .before .before .before .before .before .before .before .before .before .before .before .before .before .before .before .before .before .args in
-    rw (outcome-refused (a .input .now) (a .cells .now) (a .journal .now) _ _ (c .before .before .before .before .before .before .before .before .before .before .before .before .if1 .left) (c .before .before .before .before .before .before .before .before .before .before .load .ensures) _ _ (c .before .before .before .before .before .before .answer .given .1), ← c .before .before .before .refusal-number .ensures)
+    rw (outcome-refused (a .input .now) (a .cells .now) (a .journal .now) _ _ (c .before .before .before .before .before .before .before .before .before .before .before .before .if1 .left) (c .before .before .before .before .before .before .before .before .before .before .load .ensures) _ _ (c .before .before .before .before .before .before .answer .given .1), ← c .before .before .before .number .ensures)
     (record { told = c .before .before .put-refused2 .ensures; cells = refl; journal = refl })
 
 same-length-4 : tie.Need-same-length-4
@@ -71,7 +71,7 @@ run-job-spec =
     returns
     load-requires
     enum-known-answer
-    refusal-number-requires
+    number-requires
     put-refused-requires-2
     enum-told
     run-requires
