@@ -17,7 +17,7 @@ tested : (m n : ℕ) (b : Bool) → ltb m n ≡ b → (m < n) ⊎ (n ≤ m)
 tested m n true e = inl (ltb-true m n e)
 tested m n false e = inr (ltb-false m n e)
 
-below : (m n : ℕ) → (m < n) ⊎ (n ≤ m)
+pub below : (m n : ℕ) → (m < n) ⊎ (n ≤ m)
 below m n = tested m n (ltb m n) refl
 
 pub sets-append : (p q l : List ℕ) (i : ℕ) → sets l i (p ++ q) ≡ sets (sets l i p) (i + length p) q

@@ -4,3 +4,5 @@ pub mod Steps
 pub mod Progress
 pub mod Picks
 pub mod Stops
+pub mod Told
+pub mod Parts

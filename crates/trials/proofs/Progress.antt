@@ -8,8 +8,7 @@ use Rattle.machine.specs.State.{State}
 use Rattle.machine.specs.Calls.{Out}
 use Rattle.text.specs.Text.{Added}
 use Rattle.trials.specs.Payload.{longAt}
-use Rattle.trials.specs.Calls.{ranText}
-use Rattle.trials.specs.Machines.{callBy, callsText}
+use Rattle.trials.specs.Calls.{ranText, callBy, callsText}
 use Rattle.text.proofs.Adds.{added-then}
 
 -- some lines are put, and with those of the calls that are left they are all

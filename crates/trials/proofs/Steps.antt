@@ -1,4 +1,4 @@
--- What one turn of each loop does: a word of a digest, a word cleared, a setting made.
+-- What one turn of each loop does: a word of a digest, a word filled, a setting made.
 use mathlib.Core.Path.{_≡_, refl, ap}
 use mathlib.Core.List.{List, [], _∷_}
 use Prim.Native.Nat.{ℕ, zero, suc, _+_, _*_, _-_, _%_, _<_, _≤_}
@@ -7,7 +7,7 @@ use native.Mathlib.Omega.{arith}
 use lib.ListN.{length, getD, drop, set, replicate, drop-of-length-le}
 use lib.Seq.{drop-cons}
 use Rattle.trials.specs.Payload.{wordAt}
-use Rattle.trials.specs.Calls.{digestFrom, wordsFrom, registersFrom}
+use Rattle.trials.specs.Machines.{digestFrom, wordsFrom, registersFrom}
 
 pub digest-step : (s : List ℕ) (i x : ℕ) → i < length s → digestFrom x (drop i s) ≡ digestFrom ((x * 31 + getD s i 0 + 1) % 4294967296) (drop (i + 1) s)
 digest-step s i x h = rw (add-one i, drop-cons s i 0 h)
@@ -15,20 +15,20 @@ digest-step s i x h = rw (add-one i, drop-cons s i 0 h)
 pub digest-end : (s : List ℕ) (i x : ℕ) → length s ≤ i → digestFrom x (drop i s) ≡ x
 digest-end s i x h = rw (drop-of-length-le s h)
 
--- a list whose first i words are cleared
-abbrev pub cleared : ℕ → List ℕ → List ℕ
-cleared zero s = s
-cleared (suc i) [] = []
-cleared (suc i) (x ∷ s) = 0 ∷ cleared i s
+-- a list whose first i words are v
+abbrev pub filled : ℕ → ℕ → List ℕ → List ℕ
+filled v zero s = s
+filled v (suc i) [] = []
+filled v (suc i) (x ∷ s) = v ∷ filled v i s
 
-pub cleared-more : (s : List ℕ) (i : ℕ) → i < length s → set (cleared i s) i 0 ≡ cleared (suc i) s
-cleared-more [] i h = absurd (omega arith)
-cleared-more (x ∷ s) zero h = refl
-cleared-more (x ∷ s) (suc i) h = ap (λ (t : List ℕ). 0 ∷ t) (cleared-more s i (omega arith))
+pub filled-more : (v : ℕ) (s : List ℕ) (i : ℕ) → i < length s → set (filled v i s) i v ≡ filled v (suc i) s
+filled-more v [] i h = absurd (omega arith)
+filled-more v (x ∷ s) zero h = refl
+filled-more v (x ∷ s) (suc i) h = ap (λ (t : List ℕ). v ∷ t) (filled-more v s i (omega arith))
 
-pub cleared-all : (s : List ℕ) → cleared (length s) s ≡ replicate (length s) 0
-cleared-all [] = refl
-cleared-all (x ∷ s) = ap (λ (t : List ℕ). 0 ∷ t) (cleared-all s)
+pub filled-all : (v : ℕ) (s : List ℕ) → filled v (length s) s ≡ replicate (length s) v
+filled-all v [] = refl
+filled-all v (x ∷ s) = ap (λ (t : List ℕ). v ∷ t) (filled-all v s)
 
 pub words-step : (n : ℕ) (s : List ℕ) (at : ℕ) (l m : List ℕ) → 0 < n → m ≡ set l (wordAt s at) (wordAt s (at + 4)) → wordsFrom (n - 1) s (at + 8) m ≡ wordsFrom n s at l
 words-step zero s at l m h e = absurd (omega arith)

@@ -4,3 +4,4 @@ pub mod Lines
 pub mod Calls
 pub mod Machines
 pub mod Answers
+pub mod Jobs

@@ -1,15 +1,40 @@
--- What the payload of a trial of calls gives, and the answer to it.
-use mathlib.Core.List.{List, [], _++_}
-use mathlib.Core.Bool.{cond}
-use Prim.Native.Nat.{ℕ, zero, suc, _+_, _*_}
-use lib.Dec.{eqb}
-use lib.ListN.{getD, replicate}
+-- Machines in trials: the text that shows one, and the machine that a payload gives.
+use mathlib.Core.List.{List, [], _∷_, _++_}
+use Prim.Native.Nat.{ℕ, zero, suc, _+_, _*_, _%_}
+use lib.ListN.{getD, set, replicate}
+use Rattle.effect.specs.declared.Settings.{Settings}
 use Rattle.machine.specs.declared.Machine.{Machine}
-use Rattle.machine.specs.State.{State, stateOf}
-use Rattle.machine.specs.Calls.{Out, runOf, backOf}
-use Rattle.trials.specs.declared.calls.Layout.{Layout}
-use Rattle.trials.specs.Payload.{halfAt, wordAt, longAt}
-use Rattle.trials.specs.Calls.{ranText, wordsFrom, registersFrom}
+use Rattle.text.specs.Text.{named}
+use Rattle.trials.specs.declared.machines.Layout.{Layout}
+use Rattle.trials.specs.Payload.{halfAt, wordAt}
+
+-- X, from X = 0 on by X = (X * 31 + w + 1) modulo 2^32 over the words in order; bytes count as words
+abbrev pub digestFrom : ℕ → List ℕ → ℕ
+digestFrom x [] = x
+digestFrom x (w ∷ s) = digestFrom ((x * 31 + w + 1) % 4294967296) s
+
+unfoldable pub digestOf : List ℕ → ℕ
+digestOf s = digestFrom 0 s
+
+abbrev pub settingsText : Settings → ℕ → List ℕ
+settingsText s depth = named "flags " (s .flags) ++ named " mask " (s .mask) ++ named " mode " (s .mode) ++ named " depth " depth
+
+abbrev pub digestsText : List ℕ → List ℕ → List ℕ
+digestsText regs cells = named " registers " (digestOf regs) ++ named " cells " (digestOf cells)
+
+-- `flags F mask M mode R depth D registers DIGEST cells DIGEST`
+abbrev pub machineText : Machine → List ℕ → List ℕ
+machineText m cells = settingsText (m .settings) (m .depth) ++ digestsText (m .regs) cells
+
+-- settings of words, of a place and a value each, from a place of the payload on; one outside the list does nothing
+abbrev pub wordsFrom : ℕ → List ℕ → ℕ → List ℕ → List ℕ
+wordsFrom zero s at l = l
+wordsFrom (suc n) s at l = wordsFrom n s (at + 8) (set l (wordAt s at) (wordAt s (at + 4)))
+
+-- settings of registers
+abbrev pub registersFrom : ℕ → List ℕ → ℕ → List ℕ → List ℕ
+registersFrom zero s at l = l
+registersFrom (suc n) s at l = registersFrom n s (at + 5) (set l (getD s at 0) (wordAt s (at + 1)))
 
 -- where the settings of cells, those of the journal and the calls begin, each with its count
 abbrev pub cellsAt : List ℕ → ℕ
@@ -24,7 +49,7 @@ callsAt s = journalAt s + 2 + 8 * halfAt s (journalAt s)
 abbrev pub layoutOf : List ℕ → Layout
 layoutOf s = record { cells = cellsAt s; journal = journalAt s; calls = callsAt s }
 
--- the machine that the first call gets
+-- the machine that a payload gives
 abbrev pub machineOf : List ℕ → Machine
 machineOf s =
     record {
@@ -33,22 +58,6 @@ machineOf s =
       depth = wordAt s 20;
     }
 
--- a call by its kind: 0 step, 1 run, 2 back
-unfoldable pub callBy : ℕ → ℕ → State → Out
-callBy kind n s = cond (eqb kind 0) (runOf 1 s) (cond (eqb kind 1) (runOf n s) (backOf n s))
-
--- a line for each call; each call gets what the last one left
-abbrev pub callsText : ℕ → List ℕ → ℕ → State → List ℕ
-callsText zero s at x = []
-callsText (suc n) s at x =
-    let o = callBy (getD s at 0) (longAt s (at + 1)) x in
-    ranText o ++ callsText n s (at + 9) (o .state)
-
--- registers, cells and journal words are 0 but for the settings
-abbrev pub stateIn : List ℕ → ℕ → ℕ → State
-stateIn s cells words =
-    stateOf (machineOf s) (wordsFrom (halfAt s (cellsAt s)) s (cellsAt s + 2) (replicate cells 0))
-    (wordsFrom (halfAt s (journalAt s)) s (journalAt s + 2) (replicate words 0))
-
-unfoldable pub callsAnswer : List ℕ → ℕ → ℕ → List ℕ
-callsAnswer s cells words = callsText (halfAt s (callsAt s)) s (callsAt s + 2) (stateIn s cells words)
+-- so many words that are 0 but for the settings that begin at a place, with their count
+abbrev pub wordsIn : List ℕ → ℕ → ℕ → List ℕ
+wordsIn s at size = wordsFrom (halfAt s at) s (at + 2) (replicate size 0)

@@ -1,20 +1,14 @@
 -- `trials::put_rest` meets its contract: each kind has its answer.
-use Prim.Native.Nat.{min}
-use lib.ListN.{length, getD, take, replicate}
+use Prim.Native.Nat.{min, ℕ}
+use mathlib.Core.Path.{refl, ap, _∙_}
+use lib.ListN.{getD, take, replicate}
 use Rattle.cell.specs.declared.Operands.{Operands}
-use Rattle.cell.specs.Cell.{encodeOf, saidOf}
+use Rattle.cell.specs.Cell.{encodeOf, saidOf, decodeOf}
 use Rattle.line.specs.Line.{printOf}
 use Rattle.trials.specs.Payload.{wordAt}
-use Rattle.trials.specs.Texts.{printedText}
-use Rattle.trials.specs.Answers.{callsIn}
+use Rattle.trials.specs.Texts.{printedText, decodedText, saidText}
+use Rattle.trials.specs.Answers.{lentText, Right}
 use Rattle.trials.proofs.Picks.{pick-yes, pick-no}
-use mathlib.Core.Path.{refl, ap, _∙_}
-use mathlib.Core.List.{[]}
-use Prim.Native.Nat.{ℕ}
-use native.Mathlib.Omega.{arith}
-use Rattle.cell.specs.Cell.{decodeOf}
-use Rattle.trials.specs.Texts.{decodedText, saidText}
-use Rattle.trials.specs.Answers.{Right}
 use borrow.Author.Needs.{needs}
 use Rattle.trials.proofs.put_rest.Statement.{statement}
 use Rattle.trials.proofs.put_rest.Tie as tie
@@ -49,7 +43,7 @@ same-length-2 c = search needs
 
 returns-2 : tie.Need-returns-2
 unfolding Right
-returns-2 c = record { text = saidText (saidOf (c .before .before .before .before .encode .result)); right = pick-no (c .before .before .before .before .before .before .before .before .if1 .left) (pick-yes (c .before .before .before .before .before .before .before .if2 .taken) (ap saidText (c .before .before .before .before .encode .ensures ∙ ap (λ (x : ℕ). encodeOf x (c .before .before .before .before .before .operands .result)) (c .before .before .before .before .before .before .byte-at .ensures) ∙ ap (λ (o : Operands). encodeOf (getD (c .before .before .before .before .before .before .before .before .before .before .before .before .before .args .payload .now) 0 0) o) (c .before .before .before .before .before .operands .ensures)))); added = c .before .before .put-encoded .ensures }
+returns-2 c = record { text = saidText (saidOf (c .before .before .before .before .encode .result)); right = pick-no (c .before .before .before .before .before .before .before .before .if1 .left) (pick-yes (c .before .before .before .before .before .before .before .if2 .taken) (ap saidText (c .before .before .before .before .encode .ensures ∙ ap (λ (x : ℕ). encodeOf x (c .before .before .before .before .before .operands .result)) (c .before .before .before .before .before .before .byte-at .ensures) ∙ ap (λ (o : Operands). encodeOf (getD (c .before .before .before .before .before .before .before .before .before .before .before .before .before .before .args .payload .now) 0 0) o) (c .before .before .before .before .before .operands .ensures)))); added = c .before .before .put-encoded .ensures }
 
 word-at-requires-2 : tie.Need-word-at-requires-2
 word-at-requires-2 c κs = search needs
@@ -65,7 +59,7 @@ same-length-3 c = search needs
 
 returns-3 : tie.Need-returns-3
 unfolding Right
-returns-3 c = record { text = printedText (printOf (c .before .before .before .before .word-at2 .result) (take (min (c .before .before .before .byte-at2 .result) 40) (replicate 40 170))); right = pick-no (c .before .before .before .before .before .before .before .before .if1 .left) (pick-no (c .before .before .before .before .before .before .before .if2 .left) (pick-yes (c .before .before .before .before .before .before .if3 .taken) (ap (λ (w : ℕ). printedText (printOf w (take (min (c .before .before .before .byte-at2 .result) 40) (replicate 40 170)))) (c .before .before .before .before .word-at2 .ensures) ∙ ap (λ (z : ℕ). printedText (printOf (wordAt (c .before .before .before .before .before .before .before .before .before .before .before .before .before .args .payload .now) 0) (take (min z 40) (replicate 40 170)))) (c .before .before .before .byte-at2 .ensures)))); added = c .before .before .put-print .ensures }
+returns-3 c = record { text = printedText (printOf (c .before .before .before .before .word-at2 .result) (take (min (c .before .before .before .byte-at2 .result) 40) (replicate 40 170))); right = pick-no (c .before .before .before .before .before .before .before .before .if1 .left) (pick-no (c .before .before .before .before .before .before .before .if2 .left) (pick-yes (c .before .before .before .before .before .before .if3 .taken) (ap (λ (w : ℕ). printedText (printOf w (take (min (c .before .before .before .byte-at2 .result) 40) (replicate 40 170)))) (c .before .before .before .before .word-at2 .ensures) ∙ ap (λ (z : ℕ). printedText (printOf (wordAt (c .before .before .before .before .before .before .before .before .before .before .before .before .before .before .args .payload .now) 0) (take (min z 40) (replicate 40 170)))) (c .before .before .before .byte-at2 .ensures)))); added = c .before .before .put-print .ensures }
 
 put-read-requires : tie.Need-put-read-requires
 put-read-requires c κs = search needs
@@ -90,14 +84,12 @@ same-length-6 c = search needs
 same-length-7 : tie.Need-same-length-7
 same-length-7 c = search needs
 
+same-length-8 : tie.Need-same-length-8
+same-length-8 c = search needs
+
 returns-5 : tie.Need-returns-5
 unfolding Right
-returns-5 c = let a = c .before .before .before .before .before .before .before .before .before .before .before .before .before .before .before .before .before .before .before .args in
-    record { text = callsIn (a .payload .now) (length (a .cells .now)) (length (a .journal .now)); right = pick-no (c .before .before .before .before .before .before .before .before .before .before .before .before .before .before .if1 .left) (pick-no (c .before .before .before .before .before .before .before .before .before .before .before .before .before .if2 .left) (pick-no (c .before .before .before .before .before .before .before .before .before .before .before .before .if3 .left) (pick-no (c .before .before .before .before .before .before .before .before .before .before .before .if4 .left) (pick-yes (c .before .before .before .before .before .before .before .before .before .before .if5 .taken) refl)))); added = c .before .before .before .before .before .before .put-lent .ensures }
-
-returns-6 : tie.Need-returns-6
-unfolding Right
-returns-6 c = record { text = []; right = pick-no (c .before .before .before .before .if1 .left) (pick-no (c .before .before .before .if2 .left) (pick-no (c .before .before .if3 .left) (pick-no (c .before .if4 .left) (pick-no (c .if5 .left) refl)))); added = record { end = omega arith; text = refl } }
+returns-5 c = record { text = lentText _ _ _ _ _; right = pick-no (c .before .before .before .before .before .before .before .before .before .before .before .before .before .before .before .before .if1 .left) (pick-no (c .before .before .before .before .before .before .before .before .before .before .before .before .before .before .before .if2 .left) (pick-no (c .before .before .before .before .before .before .before .before .before .before .before .before .before .before .if3 .left) (pick-no (c .before .before .before .before .before .before .before .before .before .before .before .before .before .if4 .left) refl))); added = c .before .before .before .before .before .before .before .before .put-lent .ensures }
 
 pub put-rest-spec : {M : Type 1} → statement M
 put-rest-spec =
@@ -125,5 +117,5 @@ put-rest-spec =
     same-length-5
     same-length-6
     same-length-7
-    returns-5
-    returns-6)
+    same-length-8
+    returns-5)

@@ -1,6 +1,6 @@
 -- `trials::calls::call` meets its contract: a kind names the call.
+use Rattle.trials.specs.Calls.{callBy}
 use borrow.Author.Tests.{eq-eqb, ne-eqb}
-use Rattle.trials.specs.Machines.{callBy}
 use borrow.Author.Needs.{needs}
 use Rattle.trials.proofs.calls.call.Statement.{statement}
 use Rattle.trials.proofs.calls.call.Tie as tie

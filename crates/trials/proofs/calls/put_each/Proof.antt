@@ -1,15 +1,15 @@
 -- `trials::calls::put_each` meets its contract: the lines that are put, with those of the calls that are left, are all.
+use Prim.Native.Nat.{_≤_, _+_, _*_, _-_}
 use mathlib.Core.Path.{_≡_, refl, _∙_}
 use mathlib.Core.List.{[]}
-use Prim.Native.Nat.{_≤_, _+_, _*_, _-_}
 use native.Mathlib.Omega.{arith}
-use borrow.Author.Needs.{needs}
 use lib.ListN.{length, getD}
 use Rattle.machine.specs.State.{stateOf}
 use Rattle.machine.specs.Calls.{outOf}
 use Rattle.trials.specs.Payload.{longAt}
-use Rattle.trials.specs.Machines.{callBy, callsText}
+use Rattle.trials.specs.Calls.{callBy, callsText}
 use Rattle.trials.proofs.Progress.{Going, going-on, gone}
+use borrow.Author.Needs.{needs}
 use Rattle.trials.proofs.calls.put_each.Statement.{statement}
 use Rattle.trials.proofs.calls.put_each.Tie as tie
 

@@ -34,11 +34,17 @@ slice-aggregate-put-number-5 c = search needs
 put-number-requires-5 : tie.Need-put-number-requires-5
 put-number-requires-5 c κs = search needs
 
+slice-aggregate-put : tie.Need-slice-aggregate-put
+slice-aggregate-put c = search needs
+
+put-requires : tie.Need-put-requires
+put-requires c κs = search needs
+
 same-length : tie.Need-same-length
 same-length c = search needs
 
 returns : tie.Need-returns
-returns c = added-then _ _ (added-then _ _ (added-then _ _ (added-then _ _ (c .before .before .before .before .before .before .before .before .before .before .before .before .before .before .before .before .before .before .before .before .before .before .put-number .ensures) (c .before .before .before .before .before .before .before .before .before .before .before .before .before .before .before .before .before .put-number2 .ensures)) (c .before .before .before .before .before .before .before .before .before .before .before .before .put-number3 .ensures)) (c .before .before .before .before .before .before .before .put-number4 .ensures)) (c .before .before .put-number5 .ensures)
+returns c = added-then _ _ (added-then _ _ (added-then _ _ (added-then _ _ (added-then _ _ (c .before .before .before .before .before .before .before .before .before .before .before .before .before .before .before .before .before .before .before .before .before .before .before .before .before .before .before .put-number .ensures) (c .before .before .before .before .before .before .before .before .before .before .before .before .before .before .before .before .before .before .before .before .before .before .put-number2 .ensures)) (c .before .before .before .before .before .before .before .before .before .before .before .before .before .before .before .before .before .put-number3 .ensures)) (c .before .before .before .before .before .before .before .before .before .before .before .before .put-number4 .ensures)) (c .before .before .before .before .before .before .before .put-number5 .ensures)) (c .before .before .put .ensures)
 
 pub put-stop-spec : {M : Type 1} → statement M
 put-stop-spec =
@@ -54,5 +60,7 @@ put-stop-spec =
     put-number-requires-4
     slice-aggregate-put-number-5
     put-number-requires-5
+    slice-aggregate-put
+    put-requires
     same-length
     returns)

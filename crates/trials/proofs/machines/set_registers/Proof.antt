@@ -1,14 +1,13 @@
--- `trials::calls::set_registers` meets its contract: the settings that are left make of the registers what all make of the first ones.
-use lib.ListN.{getD, set}
+-- `trials::machines::set_registers` meets its contract: the settings that are left make of the registers what all make of the first ones.
+use Prim.Native.Nat.{_≤_, _+_, _*_, _-_}
+use mathlib.Core.Path.{_≡_, refl, sym, _∙_}
+use native.Mathlib.Omega.{arith}
+use lib.ListN.{getD, set, length, length-set}
 use Rattle.trials.specs.Payload.{wordAt}
 use Rattle.trials.proofs.Steps.{registers-step, registers-none}
-use native.Mathlib.Omega.{arith}
-use mathlib.Core.Path.{_≡_, refl, sym, _∙_}
-use Prim.Native.Nat.{_≤_, _+_, _*_, _-_}
-use lib.ListN.{length, length-set}
-use Rattle.trials.specs.Calls.{registersFrom}
-use Rattle.trials.proofs.calls.set_registers.Statement.{statement}
-use Rattle.trials.proofs.calls.set_registers.Tie as tie
+use Rattle.trials.specs.Machines.{registersFrom}
+use Rattle.trials.proofs.machines.set_registers.Statement.{statement}
+use Rattle.trials.proofs.machines.set_registers.Tie as tie
 
 abbrev Inv-loop : tie.InvT-loop
 Inv-loop regs₀ payload at count left₀ from₀ regs left from = (from + 5 * left ≤ at + 5 * count) × (registersFrom left payload from regs ≡ registersFrom count payload at regs₀) × (length regs ≡ length regs₀)

@@ -1,8 +1,8 @@
--- `trials::calls::put_settings` meets its contract: the pieces, put one after the other.
+-- `trials::machines::put_settings` meets its contract: the pieces, put one after the other.
 use Rattle.text.proofs.Adds.{added-then}
 use borrow.Author.Needs.{needs}
-use Rattle.trials.proofs.calls.put_settings.Statement.{statement}
-use Rattle.trials.proofs.calls.put_settings.Tie as tie
+use Rattle.trials.proofs.machines.put_settings.Statement.{statement}
+use Rattle.trials.proofs.machines.put_settings.Tie as tie
 
 slice-aggregate-put-number : tie.Need-slice-aggregate-put-number
 slice-aggregate-put-number c = search needs

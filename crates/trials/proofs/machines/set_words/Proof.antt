@@ -1,17 +1,15 @@
--- `trials::calls::set_words` meets its contract: the settings that are left make of the words what all make of the first ones.
-use mathlib.Core.Path.{ap}
-use lib.ListN.{set}
-use Rattle.text.proofs.Adds.{set-past}
+-- `trials::machines::set_words` meets its contract: the settings that are left make of the words what all make of the first ones.
+use Prim.Native.Nat.{_≤_, _+_, _*_, _-_}
+use mathlib.Core.Path.{ap, _≡_, refl, sym, _∙_}
 use mathlib.Core.Logic.{⊎-elim}
+use native.Mathlib.Omega.{arith}
+use lib.ListN.{set, length, length-set}
+use Rattle.text.proofs.Adds.{set-past}
 use Rattle.trials.specs.Payload.{wordAt}
 use Rattle.trials.proofs.Steps.{words-step, words-none}
-use native.Mathlib.Omega.{arith}
-use mathlib.Core.Path.{_≡_, refl, sym, _∙_}
-use Prim.Native.Nat.{_≤_, _+_, _*_, _-_}
-use lib.ListN.{length, length-set}
-use Rattle.trials.specs.Calls.{wordsFrom}
-use Rattle.trials.proofs.calls.set_words.Statement.{statement}
-use Rattle.trials.proofs.calls.set_words.Tie as tie
+use Rattle.trials.specs.Machines.{wordsFrom}
+use Rattle.trials.proofs.machines.set_words.Statement.{statement}
+use Rattle.trials.proofs.machines.set_words.Tie as tie
 
 abbrev Inv-loop : tie.InvT-loop
 Inv-loop words₀ payload at count left₀ from₀ words left from = (from + 8 * left ≤ at + 8 * count) × (wordsFrom left payload from words ≡ wordsFrom count payload at words₀) × (length words ≡ length words₀)

@@ -1,8 +1,8 @@
--- `trials::calls::parts_of` meets its contract: each count is below 2^16.
+-- `trials::machines::parts_of` meets its contract: each count is below 2^16.
 use native.Mathlib.Omega.{arith}
 use borrow.Author.Needs.{needs}
-use Rattle.trials.proofs.calls.parts_of.Statement.{statement}
-use Rattle.trials.proofs.calls.parts_of.Tie as tie
+use Rattle.trials.proofs.machines.parts_of.Statement.{statement}
+use Rattle.trials.proofs.machines.parts_of.Tie as tie
 
 half-at-requires : tie.Need-half-at-requires
 half-at-requires c κs = search needs

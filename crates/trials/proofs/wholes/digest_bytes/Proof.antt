@@ -1,18 +1,18 @@
--- `trials::calls::digest` meets its contract: after i turns the digest of what is left, begun at x, is that of the list.
-use native.Mathlib.Omega.{arith}
-use mathlib.Core.Path.{_≡_, refl, sym, _∙_}
+-- `trials::wholes::digest_bytes` meets its contract: after i turns the digest of what is left, begun at x, is that of the list.
 use Prim.Native.Nat.{_≤_, _<_, _-_}
+use mathlib.Core.Path.{_≡_, refl, sym, _∙_}
+use native.Mathlib.Omega.{arith}
 use lib.ListN.{length, drop}
-use Rattle.trials.specs.Calls.{digestFrom, digestOf}
+use Rattle.trials.specs.Machines.{digestFrom, digestOf}
 use Rattle.trials.proofs.Steps.{digest-step, digest-end}
-use Rattle.trials.proofs.calls.digest.Statement.{statement}
-use Rattle.trials.proofs.calls.digest.Tie as tie
+use Rattle.trials.proofs.wholes.digest_bytes.Statement.{statement}
+use Rattle.trials.proofs.wholes.digest_bytes.Tie as tie
 
 abbrev Inv-loop : tie.InvT-loop
-Inv-loop words x₀ i₀ x i = (i ≤ length words) × (x < 4294967296) × (digestFrom x (drop i words) ≡ digestOf words)
+Inv-loop bytes x₀ i₀ x i = (i ≤ length bytes) × (x < 4294967296) × (digestFrom x (drop i bytes) ≡ digestOf bytes)
 
 abbrev μ-loop : tie.MeasureT-loop
-μ-loop words x₀ i₀ x i = length words - i
+μ-loop bytes x₀ i₀ x i = length bytes - i
 
 loop-holds : tie.Need-loop-holds Inv-loop μ-loop
 unfolding digestOf
@@ -20,9 +20,6 @@ loop-holds c = (omega arith, omega arith, refl)
 
 mul-x : tie.Need-mul-x Inv-loop μ-loop
 mul-x c = omega arith
-
-mul-x-2 : tie.Need-mul-x-2 Inv-loop μ-loop
-mul-x-2 c = omega arith
 
 shared-slice-read-x : tie.Need-shared-slice-read-x Inv-loop μ-loop
 shared-slice-read-x c = omega arith
@@ -43,7 +40,7 @@ loop-less : tie.Need-loop-less Inv-loop μ-loop
 loop-less c = omega arith
 
 loop-again : tie.Need-loop-again Inv-loop μ-loop
-loop-again c = let s = c .before .before .before .args .words .now in
+loop-again c = let s = c .before .before .before .args .bytes .now in
     let i = c .before .before .loop .i in (
       omega arith,
       omega arith,
@@ -51,17 +48,16 @@ loop-again c = let s = c .before .before .before .args .words .now in
     )
 
 returns : tie.Need-returns Inv-loop μ-loop
-returns c = sym (digest-end (c .before .before .args .words .now) (c .before .loop .i) (c .before .loop .x) (c .loop-test .left)) ∙ c .before .loop .inv .2
+returns c = sym (digest-end (c .before .before .args .bytes .now) (c .before .loop .i) (c .before .loop .x) (c .loop-test .left)) ∙ c .before .loop .inv .2
 
-pub digest-spec : {M : Type 1} → statement M
-digest-spec =
+pub digest-bytes-spec : {M : Type 1} → statement M
+digest-bytes-spec =
     tie.close
     (tie.spec
     Inv-loop
     μ-loop
     loop-holds
     mul-x
-    mul-x-2
     shared-slice-read-x
     cast-x
     add-x

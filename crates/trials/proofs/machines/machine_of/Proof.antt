@@ -1,7 +1,7 @@
--- `trials::calls::machine_of` meets its contract: the registers are set, and the settings and the depth are words of the payload.
+-- `trials::machines::machine_of` meets its contract: the registers are set, and the settings and the depth are words of the payload.
 use borrow.Author.Needs.{needs}
-use Rattle.trials.proofs.calls.machine_of.Statement.{statement}
-use Rattle.trials.proofs.calls.machine_of.Tie as tie
+use Rattle.trials.proofs.machines.machine_of.Statement.{statement}
+use Rattle.trials.proofs.machines.machine_of.Tie as tie
 
 half-at-requires : tie.Need-half-at-requires
 half-at-requires c κs = search needs
