@@ -3,3 +3,5 @@ pub mod Travel
 pub mod Loaded
 pub mod Repeat
 pub mod Once
+pub mod Readback
+pub mod Reload
