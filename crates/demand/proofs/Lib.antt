@@ -4,3 +4,5 @@ pub mod Loaded
 pub mod Repeat
 pub mod Once
 pub mod Refusals
+pub mod Readback
+pub mod Reload

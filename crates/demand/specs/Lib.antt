@@ -1,3 +1,4 @@
 pub mod Cases
 pub mod Journey
 pub mod Demands
+pub mod Reload

@@ -48,7 +48,7 @@ zeros zero i = omega arith
 zeros (suc n) zero = omega arith
 zeros (suc n) (suc i) = zeros n i
 
-in-range : (s : Settings) → badSettings s ≡ false → InRange s
+pub in-range : (s : Settings) → badSettings s ≡ false → InRange s
 in-range s h =
     let f = leb flagsBound (s .flags) in
     let m = leb flagsBound (s .mask) in

@@ -25,7 +25,7 @@ bytes-take (suc n) (x ∷ l) b zero = b 0
 bytes-take (suc n) (x ∷ l) b (suc i) = bytes-take n l (λ i. b (suc i)) i
 
 -- A number of w bytes is below 256 to the power of w.
-unfoldable bound : ℕ → ℕ
+unfoldable pub bound : ℕ → ℕ
 bound zero = 1
 bound (suc w) = 256 * bound w
 
@@ -103,7 +103,7 @@ unfolding bytesOf
 drop-bytes zero v rest = refl
 drop-bytes (suc w) v rest = drop-bytes w (v / 256) rest
 
-little-bytes : (w v : ℕ) → v < bound w → littleOf (bytesOf w v) ≡ v
+pub little-bytes : (w v : ℕ) → v < bound w → littleOf (bytesOf w v) ≡ v
 unfolding littleOf bytesOf bound
 little-bytes zero v h = omega arith
 little-bytes (suc w) v h =

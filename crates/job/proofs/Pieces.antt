@@ -13,6 +13,7 @@ use lib.Seq.{sets, length-sets, drop-cons, drop-drop}
 use borrow.Author.Tests.{eq-eqb, ne-eqb}
 use Rattle.effect.specs.declared.Settings.{Settings}
 use Rattle.effect.proofs.Safe.{picked}
+use Rattle.machine.specs.State.{mostCells}
 use Rattle.job.specs.Job.{bytesOf}
 use Rattle.job.specs.Saving.{recordOf, wordBytes, runOf, runsFrom, valueRecord, valuesFrom, freshOf, setupOf}
 use Rattle.job.specs.Inner.{Stored, Fits, spanOf}
@@ -32,9 +33,6 @@ stored-then p q {l} {m} {n} {at} {k} {r} s t =
 
 pub stored-none : (l : List ℕ) (at : ℕ) → Stored l at [] l at
 stored-none l at = record { end = omega arith; text = refl }
-
-pub stored-length : (l : List ℕ) (at : ℕ) (p : List ℕ) {m : List ℕ} {k : ℕ} → Stored l at p m k → length m ≡ length l
-stored-length l at p s = ap length (s .text) ∙ length-sets l at p
 
 -- A loop that stores a piece: what is left of it leads where the whole piece leads.
 pub record Left (before : List ℕ) (at : ℕ) (piece : List ℕ) (now : List ℕ) (next : ℕ) (left : List ℕ) : Type 0 where
@@ -222,7 +220,7 @@ unfolding valueRecord
 value-short i v = picked (λ (l : List ℕ). length l ≤ 11) (eqb v 0) _ _ (λ t. omega arith)
     (λ t. simp (length-record, length-append, length-bytes) (omega arith))
 
-pub values-short : (regs : List ℕ) (i : ℕ) → length (valuesFrom i regs) ≤ 11 * length regs
+values-short : (regs : List ℕ) (i : ℕ) → length (valuesFrom i regs) ≤ 11 * length regs
 unfolding valuesFrom
 values-short [] i = omega arith
 values-short (v ∷ regs) i = omega (arith, length-append (valueRecord i v) (valuesFrom (i + 1) regs), value-short i v, values-short regs (i + 1))
@@ -231,3 +229,7 @@ pub setup-short : (s : Settings) → length (setupOf s) ≤ 11
 unfolding setupOf
 setup-short s = picked (λ (l : List ℕ). length l ≤ 11) (freshOf s) _ _ (λ t. omega arith)
     (λ t. simp (length-record, length-append, length-bytes) (omega arith))
+
+-- cells and registers together
+pub job-short : (cells regs : List ℕ) → length cells ≤ mostCells → length regs ≡ 256 → length (runsFrom 0 [] cells) + length (valuesFrom 0 regs) ≤ 200000
+job-short cells regs h n = omega (arith, runs-short cells [] 0, values-short regs 0)

@@ -16,6 +16,10 @@ use Rattle.job.specs.declared.reading.Look.{Look}
 use Rattle.job.specs.Job.{numberAt, kindBy, knownOf, fitsOf, endsOf, sizeOf, kindOf, payloadOf, pastOf, nothingYet, inOrder, withinOf, settledIn, Course, refused, last, onward, passed, courseOf, Said, refusedAt, endOf, followed, refusalFrom, Content, contentOf, contentFrom}
 use Rattle.job.specs.Inner.{lookedOf, Sound}
 
+-- what the records so far leave to the order, by a name for the crates above
+abbrev pub SoFar : Type 0
+SoFar = Past
+
 -- a record that is not refused
 abbrev pub goes : Course → Bool
 goes (refused k) = false

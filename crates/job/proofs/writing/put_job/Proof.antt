@@ -6,30 +6,33 @@ use native.Mathlib.Omega.{arith}
 use lib.ListN.{length}
 use borrow.Author.Needs.{needs}
 use Rattle.job.specs.Saving.{savedOf}
-use Rattle.job.proofs.Pieces.{stored-then, stored-end, runs-short, values-short, setup-short}
+use Rattle.job.proofs.Pieces.{stored-then, stored-end, runs-short, setup-short, job-short}
 use Rattle.job.proofs.writing.put_job.Statement.{statement}
 use Rattle.job.proofs.writing.put_job.Tie as tie
 
 put-runs-requires : tie.Need-put-runs-requires
-put-runs-requires c κs = (search needs, omega (arith, runs-short (c .before .before .before .before .args .cells .now) [] 0))
+put-runs-requires c κs = (c .before .before .before .before .pre, omega (arith, runs-short (c .before .before .before .before .args .cells .now) [] 0))
 
 slice-aggregate-put-values : tie.Need-slice-aggregate-put-values
 slice-aggregate-put-values c = search needs
 
 put-values-requires : tie.Need-put-values-requires
 put-values-requires c κs =
-    let n : length (c .before .before .before .before .before .before .before .before .before .args .machine .regs) ≡ 256 = search needs in
-    (n, omega (arith, runs-short (c .before .before .before .before .before .before .before .before .before .args .cells .now) [] 0, values-short (c .before .before .before .before .before .before .before .before .before .args .machine .regs) 0, c .before .before .before .before .put-runs .ensures .end))
+    let a = c .before .before .before .before .before .before .before .before .before .args in
+    let n : length (a .machine .regs) ≡ 256 = search needs in
+    (n, omega (arith, job-short (a .cells .now) (a .machine .regs) (c .before .before .before .before .before .before .before .before .before .pre) n, c .before .before .before .before .put-runs .ensures .end))
 
 put-setup-requires : tie.Need-put-setup-requires
 put-setup-requires c κs =
-    let n : length (c .before .before .before .before .before .before .before .before .before .before .before .before .before .args .machine .regs) ≡ 256 = search needs in
-    omega (arith, runs-short (c .before .before .before .before .before .before .before .before .before .before .before .before .before .args .cells .now) [] 0, values-short (c .before .before .before .before .before .before .before .before .before .before .before .before .before .args .machine .regs) 0, c .before .before .before .before .before .before .before .before .put-runs .ensures .end, c .before .before .before .put-values .ensures .end)
+    let a = c .before .before .before .before .before .before .before .before .before .before .before .before .before .args in
+    let n : length (a .machine .regs) ≡ 256 = search needs in
+    omega (arith, job-short (a .cells .now) (a .machine .regs) (c .before .before .before .before .before .before .before .before .before .before .before .before .before .pre) n, c .before .before .before .before .before .before .before .before .put-runs .ensures .end, c .before .before .before .put-values .ensures .end)
 
 put-head-requires : tie.Need-put-head-requires
 put-head-requires c κs =
-    let n : length (c .before .before .before .before .before .before .before .before .before .before .before .before .before .before .before .before .before .args .machine .regs) ≡ 256 = search needs in
-    omega (arith, runs-short (c .before .before .before .before .before .before .before .before .before .before .before .before .before .before .before .before .before .args .cells .now) [] 0, values-short (c .before .before .before .before .before .before .before .before .before .before .before .before .before .before .before .before .before .args .machine .regs) 0, setup-short (c .before .before .before .before .before .before .before .before .before .before .before .before .before .before .before .before .before .args .machine .settings), c .before .before .before .before .before .before .before .before .before .before .before .before .put-runs .ensures .end, c .before .before .before .before .before .before .before .put-values .ensures .end, c .before .before .before .put-setup .ensures .end)
+    let a = c .before .before .before .before .before .before .before .before .before .before .before .before .before .before .before .before .before .args in
+    let n : length (a .machine .regs) ≡ 256 = search needs in
+    omega (arith, job-short (a .cells .now) (a .machine .regs) (c .before .before .before .before .before .before .before .before .before .before .before .before .before .before .before .before .before .pre) n, setup-short (a .machine .settings), c .before .before .before .before .before .before .before .before .before .before .before .before .put-runs .ensures .end, c .before .before .before .before .before .before .before .put-values .ensures .end, c .before .before .before .put-setup .ensures .end)
 
 same-length : tie.Need-same-length
 same-length c = search needs

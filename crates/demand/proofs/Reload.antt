@@ -1,0 +1,93 @@
+-- Loading a saved job into as many cells gives that machine and those cells, at depth 0. The proof walks over the saved job's pieces, each of which
+-- is read back.
+-- Assumes nothing.
+use Prim.Native.Nat.{ℕ, zero, suc, _+_, _≤_}
+use mathlib.Core.Path.{_≡_, refl, _∙_}
+use mathlib.Core.Bool.{Bool, true, false, cond}
+use mathlib.Core.List.{List, [], _++_, append-assoc, append-nil}
+use native.Mathlib.Omega.{arith}
+use lib.Dec.{ltb}
+use lib.ListN.{length, getD, take, drop, replicate, length-replicate, drop-of-length-le}
+use lib.Seq.{sets, sets-eq, take-append-seam}
+use borrow.Author.Tests.{ltb-false, ne-eqb, le-ltb}
+use Rattle.effect.specs.Inner.{InRange}
+use Rattle.machine.specs.declared.Machine.{Machine}
+use Rattle.machine.specs.State.{mostCells}
+use Rattle.machine.specs.Calls.{badCells, badSettings}
+use Rattle.job.specs.Job.{nothingYet, Content, unnamed, refusalIn, loadOf}
+use Rattle.job.specs.Saving.{recordOf, runsFrom, valuesFrom, setupOf, savedOf, Save, unsaved, saveOf}
+use Rattle.job.proofs.Loading.{not-above}
+use Rattle.job.proofs.Lawful.{in-range}
+use Rattle.demand.specs.Reload.{Held, Saveable, reloaded}
+use Rattle.demand.proofs.Readback.{Reads, reads-end, reads-setup, reads-values, reads-runs}
+
+-- a list stored over as many zeros
+over-zeros : (n : ℕ) (l : List ℕ) → length l ≡ n → sets (replicate n 0) 0 l ≡ l
+over-zeros n l e =
+    let z : length (replicate {A = ℕ} n 0) ≡ n = length-replicate {A = ℕ} n 0 in
+    let d : drop (0 + length l) (replicate {A = ℕ} n 0) ≡ [] = drop-of-length-le (replicate n 0) {i = 0 + length l} (omega arith) in
+    sets-eq l (replicate n 0) 0 (omega arith) ∙ rw d (append-nil l)
+
+all-zero : (n j : ℕ) → _≡_ {A = ℕ} (getD (replicate n 0) j 0) 0
+all-zero zero j = refl
+all-zero (suc n) zero = refl
+all-zero (suc n) (suc j) = all-zero n j
+
+module _ (m : Machine) (cells : List ℕ) (held : Held m cells) (settled : InRange (m .settings)) (fine : badCells (length cells) ≡ false) where
+  -- what the walk over a saved job makes of cells and registers that are 0
+  abbrev made : Content
+  made = record { regs = sets (replicate 256 0) 0 (m .regs); settings = m .settings; cells = sets (replicate (length cells) 0) 0 cells }
+
+  parts : savedOf m cells ≡ runsFrom 0 [] cells ++ (valuesFrom 0 (m .regs) ++ (setupOf (m .settings) ++ recordOf 4 []))
+  unfolding savedOf
+  parts =
+      append-assoc (runsFrom 0 [] cells ++ valuesFrom 0 (m .regs)) (setupOf (m .settings)) (recordOf 4 [])
+      ∙ append-assoc (runsFrom 0 [] cells) (valuesFrom 0 (m .regs)) (setupOf (m .settings) ++ recordOf 4 [])
+
+  walked : Reads (length cells) nothingYet (unnamed (length cells)) (savedOf m cells) made
+  walked =
+      rw parts
+      (reads-runs cells [] 0 (length cells) nothingYet (unnamed (length cells)) _ made (not-above (length cells) fine) (omega arith) (omega arith) (omega arith) (omega arith) (λ i. omega arith) (held .words) (λ j h. all-zero (length cells) j) (λ seen a k.
+      reads-values (m .regs) 0 (length cells) seen _ _ made (omega arith) k (omega (arith, held .registers)) (held .values) (λ j h. all-zero 256 j) (λ later b.
+      reads-setup (length cells) later _ (m .settings) _ made settled refl (omega arith) (λ last d.
+      reads-end (length cells) last made (omega arith)))))
+
+  back : (before : List ℕ) → length before ≡ length cells → loadOf (savedOf m cells) before ≡ reloaded m cells
+  unfolding refusalIn
+  back before e =
+      let w = walked (length (savedOf m cells)) 0 (omega arith) in
+      rw (e, fine, w .0, e, w .1, over-zeros 256 (m .regs) (held .registers), over-zeros (length cells) cells refl)
+
+-- Loading a saved job into as many cells gives that machine and those cells, at depth 0.
+pub reload : (m : Machine) (cells before : List ℕ) → Saveable m cells → length before ≡ length cells → loadOf (savedOf m cells) before ≡ reloaded m cells
+reload m cells before s e =
+    back m cells (s .held) (s .settled) (rw (ne-eqb (length cells) 0 (λ z. omega (arith, s .some)), le-ltb mostCells (length cells) (s .few))) before e
+
+-- A save that is not refused is past its tests, and its job stands in the room.
+module _ (m : Machine) (cells room : List ℕ) where
+  tested : (t : Bool) (k : ℕ) (o : Save) → (k ≡ 0 → ⊥) → cond t (unsaved k room) o .number ≡ 0 → (t ≡ false) × (o .number ≡ 0) × (cond t (unsaved k room) o ≡ o)
+  tested true k o n h = absurd (n h)
+  tested false k o n h = (refl, h, refl)
+
+  record Done : Type 0 where
+    fine : badCells (length cells) ≡ false
+    settled : badSettings (m .settings) ≡ false
+    fits : length (savedOf m cells) ≤ length room
+    saved : saveOf m cells room ≡ record { room = sets room 0 (savedOf m cells); number = 0; length = length (savedOf m cells) }
+
+  done : saveOf m cells room .number ≡ 0 → Done
+  unfolding saveOf
+  done h =
+      let a = tested (badCells (length cells)) 12 _ (λ e. omega arith) h in
+      let b = tested (badSettings (m .settings)) 10 _ (λ e. omega arith) (a .1) in
+      let c = tested (ltb (length room) (length (savedOf m cells))) 48 _ (λ e. omega arith) (b .1) in
+      record { fine = a .0; settled = b .0; fits = ltb-false (length room) (length (savedOf m cells)) (c .0); saved = a .2 ∙ b .2 ∙ c .2 }
+
+-- The bytes that a save wrote, loaded into as many cells, give that machine and those cells.
+pub save-reload : (m : Machine) (cells room before : List ℕ) → Held m cells → length before ≡ length cells → saveOf m cells room .number ≡ 0
+    → loadOf (take (saveOf m cells room .length) (saveOf m cells room .room)) before ≡ reloaded m cells
+save-reload m cells room before held e h =
+    let d = done m cells room h in
+    let front : take (length (savedOf m cells)) (sets room 0 (savedOf m cells)) ≡ savedOf m cells
+    = rw (sets-eq (savedOf m cells) room 0 (omega (arith, d .fits))) (take-append-seam (savedOf m cells) (drop (0 + length (savedOf m cells)) room)) in
+    rw (d .saved, front) (back m cells held (in-range (m .settings) (d .settled)) (d .fine) before e)

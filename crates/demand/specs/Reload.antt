@@ -1,0 +1,34 @@
+-- Saving and loading: what can be saved, and what a load of the saved job gives.
+use Prim.Native.Nat.{ℕ, _^_, _<_, _≤_}
+use mathlib.Core.Path.{_≡_}
+use mathlib.Core.List.{List}
+use lib.ListN.{length, getD}
+use Rattle.effect.specs.Inner.{InRange}
+use Rattle.machine.specs.declared.Machine.{Machine}
+use Rattle.machine.specs.State.{mostCells}
+use Rattle.job.specs.Job.{Load}
+
+-- 32-bit words
+abbrev pub Words32 : List ℕ → Type 0
+Words32 l = (i : ℕ) → getD l i 0 < 2 ^ 32
+
+-- Registers 0 to 255 hold 32 bits, and so does each cell.
+pub record Held (m : Machine) (cells : List ℕ) : Type 0 where
+  pub registers : length (m .regs) ≡ 256
+  pub values : Words32 (m .regs)
+  pub words : Words32 cells
+
+-- What a save does not refuse for 12 or 10: 1 to 16,384 cells, settings in range. The depth may be any.
+pub record Saveable (m : Machine) (cells : List ℕ) : Type 0 where
+  pub held : Held m cells
+  pub some : 1 ≤ length cells
+  pub few : length cells ≤ mostCells
+  pub settled : InRange (m .settings)
+
+-- That machine and those cells, at depth 0.
+abbrev pub reloaded : Machine → List ℕ → Load
+reloaded m cells = record {
+  machine = record { regs = m .regs; settings = m .settings; depth = 0 };
+  cells = cells;
+  said = record { number = 0; offset = 0 };
+}
