@@ -4,13 +4,13 @@ use mathlib.Core.List.{List, [], _∷_, _++_}
 use mathlib.Core.Logic.{_⊎_, inl, inr, ⊎-elim}
 use mathlib.Core.Bool.{Bool, true, false}
 use Prim.Native.Nat.{ℕ, zero, suc, _+_, _<_, _≤_}
-use native.Mathlib.Nat.{add-zero}
+use native.Mathlib.Nat.{add-zero, zero-add}
 use native.Mathlib.Numerals.{add-one}
 use native.Mathlib.Omega.{arith}
 use borrow.Author.Tests.{ltb-true, ltb-false}
 use lib.Dec.{ltb}
 use lib.ListN.{length, getD, take, drop, set, length-append, length-set, take-append-drop}
-use lib.Seq.{sets, take-suc, length-take-le, length-sets}
+use lib.Seq.{sets, sets-eq, take-suc, take-at, length-take-le, length-sets}
 use Rattle.text.specs.Text.{Added}
 
 tested : (m n : ℕ) (b : Bool) → ltb m n ≡ b → (m < n) ⊎ (n ≤ m)
@@ -62,6 +62,15 @@ added-then p q {l} {m} {n} {at} {k} {r} s t =
       end = simp length-append (omega (arith, s .end, t .end, e));
       text = t .text ∙ o ∙ ap (λ (a : List ℕ). sets a (at + length p) q) (s .text) ∙ sym (sets-append p q l at);
     }
+
+-- a piece that has room at the front is there whole, with what stands past it
+pub sets-front : (p l : List ℕ) → length p ≤ length l → sets l 0 p ≡ p ++ drop (length p) l
+sets-front p l h = sets-eq p l 0 (omega arith) ∙ rw zero-add
+
+pub added-front : (p : List ℕ) {l m : List ℕ} {k : ℕ} → length p ≤ length l → Added l 0 p m k → (k ≡ length p) × (take k m ≡ p)
+added-front p {l} {m} {k} h s =
+    let e : k ≡ length p = omega (arith, s .end) in
+    (e, ap (λ (t : List ℕ). take k t) (s .text ∙ sets-front p l h) ∙ take-at p (drop (length p) l) k (sym e))
 
 -- what is put, and where it ends, leaves no choice
 pub once : {l p m n : List ℕ} {at k r : ℕ} → Added l at p m k → Added l at p n r → (m ≡ n) × (k ≡ r)
