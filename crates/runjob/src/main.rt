@@ -13,7 +13,7 @@ fn tell(input: &[u8], text: &mut [u8; 4164]) -> usize
 {
     let mut cells = [0u32; 4096];
     let mut journal = [0u32; 3200];
-    outcome::run_job(input, &mut cells, &mut journal, text)
+    outcome::run_job(text, 0, input, &mut cells, &mut journal)
 }
 
 // One byte more than a job may have, so that a longer input is seen to be too long.
