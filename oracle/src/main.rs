@@ -21,7 +21,7 @@ mod trial;
 use std::io::{self, Read, Write};
 use std::process::ExitCode;
 
-const USAGE: &str = "oracle generate SEED COUNT | select KINDS | answer | table | runjob";
+const USAGE: &str = "oracle generate SEED COUNT | select KINDS | answer | table | runjob | assemble";
 
 fn main() -> ExitCode {
     let arguments: Vec<String> = std::env::args().skip(1).collect();
@@ -32,6 +32,7 @@ fn main() -> ExitCode {
         ["answer"] => answer(),
         ["table"] => table(),
         ["runjob"] => runjob(),
+        ["assemble"] => assemble(),
         _ => Err(USAGE.to_string()),
     };
     match done {
@@ -103,4 +104,13 @@ fn table() -> Result<(), String> {
 fn runjob() -> Result<(), String> {
     let (text, _) = job::runjob(&input()?);
     output(text.as_bytes())
+}
+
+/// The job whose cells from 0 on are those of the printed lines.
+fn assemble() -> Result<(), String> {
+    let text = input()?;
+    let lines = text.split_inclusive(|byte| *byte == b'\n').enumerate();
+    let cells: Result<Vec<u32>, String> =
+        lines.map(|(number, line)| line::read(line).map_err(|_| format!("line {} is no cell's", number + 1))).collect();
+    output(&job::saved(&machine::Machine::fresh(), &cells?))
 }

@@ -17,7 +17,8 @@ use Rattle.cell.proofs.RoundTrip.{made, encode-registers, encode-immediate, dec
 use Rattle.cell.proofs.Fields.{InRange, decoded-in-range}
 use Rattle.line.specs.declared.ReadLine.{ReadLine}
 use Rattle.line.specs.declared.ReadLine.the-variants.{Cell, NoLine}
-use Rattle.line.specs.Line.{bytes, decimal, wordOf, spelled, lineOf, saidOf, Reads}
+use Rattle.text.specs.Text.{bytes, decimal}
+use Rattle.line.specs.Line.{wordOf, spelled, lineOf, saidOf, Reads}
 use Rattle.line.specs.Reading.{Taken, taken, missing, numberOf, fieldOf, wordFrom, ended, refused, finished, onTaken, registersOf, immediateOf, reservedOf, cellOf, restOf, readOf}
 use Rattle.cell.proofs.Tests.{never, both-left, both-right}
 use Rattle.line.proofs.Numbers.{number-back, number-true, field-back, field-true}

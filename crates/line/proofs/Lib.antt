@@ -1,6 +1,4 @@
 pub mod Pieces
-pub mod Stores
-pub mod Decimal
 pub mod Words
 pub mod Sizes
 pub mod Numbers

@@ -14,7 +14,8 @@ use Rattle.line.specs.declared.Printed.{Printed}
 use Rattle.line.specs.declared.Printed.the-variants.{Length, NoRoom}
 use Rattle.line.specs.declared.ReadLine.{ReadLine}
 use Rattle.line.specs.declared.ReadLine.the-variants.{Cell, NoLine}
-use Rattle.line.specs.Line.{bytes, digits, decimal, mnemonics, wordOf, lineOf, Shown, shownOf, placed, printOf, saidOf, Reads}
+use Rattle.text.specs.Text.{bytes, digits, decimal}
+use Rattle.line.specs.Line.{mnemonics, wordOf, lineOf, Shown, shownOf, placed, printOf, saidOf, Reads}
 use Rattle.line.specs.Reading.{readOf}
 use Rattle.line.proofs.Answers.{read-back}
 

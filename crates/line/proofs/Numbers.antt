@@ -12,10 +12,10 @@ use lib.Dec.{leb, ltb}
 use lib.ListN.{length, getD, drop, drop-of-length-le}
 use lib.Seq.{drop-cons, drop-append-seam}
 use Rattle.cell.proofs.Tests.{never, both-left, both-right}
-use Rattle.line.specs.Line.{decimal}
+use Rattle.text.specs.Text.{decimal}
 use Rattle.line.specs.Reading.{taken, missing, digit, grows, atMost, runOn, numberOf, fieldOf, begins}
 use Rattle.line.proofs.Pieces.{begins-split, begins-append}
-use Rattle.line.proofs.Decimal.{below-ten, decimal-small, decimal-large, decimal-next}
+use Rattle.text.proofs.Decimal.{below-ten, decimal-small, decimal-large, decimal-next}
 
 pub digit-means : (b : ℕ) → digit b ≡ true → (48 ≤ b) × (b ≤ 57)
 digit-means b e = (leb-true 48 b (both-left (leb 48 b) (leb b 57) e), leb-true b 57 (both-right (leb 48 b) (leb b 57) e))

@@ -15,7 +15,8 @@ use Rattle.cell.specs.declared.Form.the-variants as form
 use Rattle.cell.specs.Cell.{formOf, legal, immediate}
 use Rattle.cell.proofs.Tests.{never, count, none-passes, everywhere, both-left, both-right}
 use Rattle.line.proofs.Pieces.{begins-split, begins-append}
-use Rattle.line.specs.Line.{bytes, mnemonics, wordOf}
+use Rattle.text.specs.Text.{bytes}
+use Rattle.line.specs.Line.{mnemonics, wordOf}
 use Rattle.line.specs.Reading.{Taken, taken, missing, begins, wordFrom}
 
 word-one : (n x : ℕ) (s : List ℕ) → wordFrom (suc n) x s ≡ cond (begins (wordOf x) s) (taken x (drop (length (wordOf x)) s)) (wordFrom n (suc x) s)

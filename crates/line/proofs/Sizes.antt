@@ -14,8 +14,9 @@ use Rattle.cell.specs.Cell.{formOf, decodeOf}
 use Rattle.cell.proofs.Tests.{never}
 use Rattle.cell.proofs.Opcodes.{reserved-above}
 use Rattle.cell.proofs.Fields.{InRange, decoded-in-range}
-use Rattle.line.specs.Line.{decimal, wordOf, spelled, lineOf}
-use Rattle.line.proofs.Decimal.{decimal-length}
+use Rattle.text.specs.Text.{decimal}
+use Rattle.line.specs.Line.{wordOf, spelled, lineOf}
+use Rattle.text.proofs.Decimal.{decimal-length}
 use Rattle.line.proofs.Words.{word-short}
 
 -- an opcode that is not reserved has a row in the table

@@ -11,7 +11,8 @@ use lib.Dec.{leb, eqb}
 use lib.ListN.{length, take, drop}
 use lib.Seq.{take-at}
 use Rattle.cell.proofs.Tests.{count, everywhere, both-left, both-right}
-use Rattle.line.specs.Line.{bytes, mnemonics, wordOf}
+use Rattle.text.specs.Text.{bytes}
+use Rattle.line.specs.Line.{mnemonics, wordOf}
 use Rattle.line.specs.Reading.{begins, gap}
 use Rattle.line.proofs.Pieces.{begins-split}
 

@@ -3,32 +3,20 @@ use mathlib.Core.Path.{_≡_}
 use mathlib.Core.Logic.{_↔_}
 use mathlib.Core.Bool.{cond}
 use mathlib.Core.List.{List, [], _∷_, _++_}
-use Prim.Native.Nat.{ℕ, zero, suc, _+_, _/_, _%_, _^_, _<_}
-use Prim.Native.Char.{code}
-use Prim.Native.String.{String, [] as []ᵗ, _∷_ as _∷ᵗ_}
-use lib.Dec.{leb, ltb}
+use Prim.Native.Nat.{ℕ, _^_, _<_}
+use Prim.Native.String.{String}
+use lib.Dec.{leb}
 use lib.ListN.{length, getD, drop}
 use Rattle.cell.specs.declared.Instruction.{Instruction}
 use Rattle.cell.specs.declared.Instruction.the-variants.{Registers, Immediate, Reserved}
 use Rattle.cell.specs.Cell.{Said, decodeOf}
+use Rattle.text.specs.Text.{named}
+pub use Rattle.text.specs.Text.{bytes}
+unfoldable pub use Rattle.text.specs.Text.{digits, decimal}
 use Rattle.line.specs.declared.Printed.{Printed}
 use Rattle.line.specs.declared.Printed.the-variants.{Length, NoRoom}
 use Rattle.line.specs.declared.ReadLine.{ReadLine}
 use Rattle.line.specs.declared.ReadLine.the-variants.{Cell, NoLine}
-
--- the bytes of a text
-abbrev pub bytes : String → List ℕ
-bytes []ᵗ = []
-bytes (c ∷ᵗ s) = code c ∷ bytes s
-
--- Numbers are decimal without leading zeros: here with at most k digits.
-unfoldable pub digits : ℕ → ℕ → List ℕ
-digits zero n = []
-digits (suc k) n = cond (ltb n 10) ((48 + n) ∷ []) (digits k (n / 10) ++ ((48 + n % 10) ∷ []))
-
--- ten digits hold every number below 2^32
-unfoldable pub decimal : ℕ → List ℕ
-decimal n = digits 10 n
 
 -- The mnemonics in opcode order, eight to a row, from the source's headings. A reserved cell prints as `CELL 33554432`.
 unfoldable pub mnemonics : List String
@@ -54,16 +42,12 @@ mnemonics =
 unfoldable pub wordOf : ℕ → List ℕ
 wordOf x = bytes (getD mnemonics x "CELL") ++ bytes " "
 
--- an operand, or what joins it to the one before, with its sign: `R1`, `, R2`, `, #65533`
-abbrev pub operand : String → ℕ → List ℕ
-operand sign v = bytes sign ++ decimal v
-
 -- A line is a mnemonic, a space, operands joined by ", ", and LF: `ADD R1, R2, R3`, `ADDI R5, #65533`.
 -- A reserved cell prints as `CELL 33554432` and LF.
 abbrev pub spelled : Instruction → List ℕ
-spelled (Registers x n m l) = wordOf x ++ operand "R" n ++ operand ", R" m ++ operand ", R" l ++ bytes "\n"
-spelled (Immediate x n i) = wordOf x ++ operand "R" n ++ operand ", #" i ++ bytes "\n"
-spelled (Reserved c) = bytes "CELL " ++ decimal c ++ bytes "\n"
+spelled (Registers x n m l) = wordOf x ++ named "R" n ++ named ", R" m ++ named ", R" l ++ bytes "\n"
+spelled (Immediate x n i) = wordOf x ++ named "R" n ++ named ", #" i ++ bytes "\n"
+spelled (Reserved c) = named "CELL " c ++ bytes "\n"
 
 -- the printed line of a cell
 unfoldable pub lineOf : ℕ → List ℕ

@@ -11,7 +11,8 @@ use Rattle.cell.specs.declared.Operands.the-variants as operands
 use Rattle.cell.specs.Cell.{Said, formOf, encodeOf, opcodeOf, within}
 use Rattle.line.specs.declared.Part.{Part}
 use Rattle.line.specs.declared.Part.the-variants.{Value, Missing}
-use Rattle.line.specs.Line.{bytes, wordOf}
+use Rattle.text.specs.Text.{bytes}
+use Rattle.line.specs.Line.{wordOf}
 
 -- what is taken off the front of a text: a value and the rest, or nothing
 pub data Taken : Type 0 where

@@ -1,10 +1,10 @@
 // A cell as a line of text: printing it into lent room, and reading it back.
 ghost use mathlib.Core.Path.{_≡_};
-ghost use mathlib.Core.List.{List, _++_};
+ghost use mathlib.Core.List.{List};
 ghost use Prim.Native.Nat.{ℕ, _+_, _*_, _≤_, _<_};
 ghost use lib.ListN.{length, drop};
-ghost use Rattle.line.specs.Storing.{Stored};
-ghost use Rattle.line.specs.Line.{saidOf, Reads, decimal, wordOf, spelled, lineOf, printOf, shownOf};
+ghost use Rattle.text.specs.Text.{Added};
+ghost use Rattle.line.specs.Line.{saidOf, Reads, wordOf, spelled, lineOf, printOf, shownOf};
 ghost use Rattle.line.specs.Reading.{seen, begins, gap as gapOf, digit, grows, atMost, numberOf, fieldOf, wordFrom, ended, finished, registersOf, immediateOf, cellOf};
 ghost use Rattle.cell.specs.declared.Instruction.the-variants.{Registers, Immediate, Reserved};
 ghost use Rattle.cell.specs.Cell.{saidOf as encodedOf};
@@ -12,6 +12,8 @@ use cell::Encoded;
 use cell::Form;
 use cell::Instruction;
 use cell::Operands;
+use text::put;
+use text::put_number;
 
 // The words that begin a line, in opcode order and eight bytes each. A reserved opcode has CELL.
 const WORDS: [u8; 984] = *b"\
@@ -38,33 +40,6 @@ pub enum Printed {
     NoRoom,
 }
 
-// Puts a piece into a text, and answers where it ends.
-fn put(text: &mut [u8], at: usize, piece: &[u8]) -> usize
-    requires { ⌜ at + length (now piece) ≤ length (now text) ⌝ }
-    ensures { λ r. ⌜ Stored (now (text .entry)) at (now (piece .entry)) (now (text .exit)) r ⌝ }
-{
-    let mut i = 0;
-    while i < piece.len() {
-        text[at + i] = piece[i];
-        i += 1;
-    }
-    at + i
-}
-
-// Puts a number's decimal digits, and answers where they end.
-fn put_number(text: &mut [u8], at: usize, n: u32) -> usize
-    requires { ⌜ at + length (decimal n) ≤ length (now text) ⌝ }
-    ensures { λ r. ⌜ Stored (now (text .entry)) at (decimal n) (now (text .exit)) r ⌝ }
-{
-    if n < 10 {
-        text[at] = 48 + n as u8;
-        return at + 1;
-    }
-    let last = put_number(text, at, n / 10);
-    text[last] = 48 + (n % 10) as u8;
-    last + 1
-}
-
 // How many bytes from a place on come before the first space.
 fn gap(text: &[u8], at: usize) -> usize
     ensures { λ r. ⌜ r ≡ gapOf (drop at (now (text .entry))) ⌝ }
@@ -89,57 +64,48 @@ fn word_end(x: usize) -> usize
 
 // Puts the word of an opcode at the start of a line, and answers where it ends.
 fn put_word(line: &mut [u8], x: usize) -> usize
-    requires { ⌜ (x < 123) × (7 ≤ length (now line)) ⌝ }
-    ensures { λ r. ⌜ Stored (now (line .entry)) 0 (wordOf x) (now (line .exit)) r ⌝ }
+    requires { ⌜ x < 123 ⌝ }
+    ensures { λ r. ⌜ Added (now (line .entry)) 0 (wordOf x) (now (line .exit)) r ⌝ }
 {
     let start = 8 * x;
     let end = word_end(x);
     put(line, 0, &WORDS[start..end])
 }
 
-// Puts an operand with its sign, and answers where it ends.
-fn put_operand(line: &mut [u8], at: usize, sign: &[u8], value: u32) -> usize
-    requires { ⌜ at + length (now sign ++ decimal value) ≤ length (now line) ⌝ }
-    ensures { λ r. ⌜ Stored (now (line .entry)) at (now (sign .entry) ++ decimal value) (now (line .exit)) r ⌝ }
-{
-    let next = put(line, at, sign);
-    put_number(line, next, value)
-}
-
 // Puts the line of an instruction with three registers.
 fn put_registers(line: &mut [u8; 24], opcode: u8, n: u8, m: u8, l: u8) -> usize
     requires { ⌜ opcode < 123 ⌝ }
-    ensures { λ r. ⌜ Stored (now (line .entry)) 0 (spelled (Registers opcode n m l)) (now (line .exit)) r ⌝ }
+    ensures { λ r. ⌜ Added (now (line .entry)) 0 (spelled (Registers opcode n m l)) (now (line .exit)) r ⌝ }
 {
     let a = put_word(line, opcode as usize);
-    let b = put_operand(line, a, b"R", n as u32);
-    let c = put_operand(line, b, b", R", m as u32);
-    let d = put_operand(line, c, b", R", l as u32);
+    let b = put_number(line, a, b"R", n as u64);
+    let c = put_number(line, b, b", R", m as u64);
+    let d = put_number(line, c, b", R", l as u64);
     put(line, d, b"\n")
 }
 
 // Puts the line of an instruction with a register and an immediate.
 fn put_immediate(line: &mut [u8; 24], opcode: u8, n: u8, imm: u16) -> usize
     requires { ⌜ opcode < 123 ⌝ }
-    ensures { λ r. ⌜ Stored (now (line .entry)) 0 (spelled (Immediate opcode n imm)) (now (line .exit)) r ⌝ }
+    ensures { λ r. ⌜ Added (now (line .entry)) 0 (spelled (Immediate opcode n imm)) (now (line .exit)) r ⌝ }
 {
     let a = put_word(line, opcode as usize);
-    let b = put_operand(line, a, b"R", n as u32);
-    let c = put_operand(line, b, b", #", imm as u32);
+    let b = put_number(line, a, b"R", n as u64);
+    let c = put_number(line, b, b", #", imm as u64);
     put(line, c, b"\n")
 }
 
 // Puts the line of a reserved cell.
 fn put_reserved(line: &mut [u8; 24], cell: u32) -> usize
-    ensures { λ r. ⌜ Stored (now (line .entry)) 0 (spelled (Reserved cell)) (now (line .exit)) r ⌝ }
+    ensures { λ r. ⌜ Added (now (line .entry)) 0 (spelled (Reserved cell)) (now (line .exit)) r ⌝ }
 {
-    let a = put_operand(line, 0, b"CELL ", cell);
+    let a = put_number(line, 0, b"CELL ", cell as u64);
     put(line, a, b"\n")
 }
 
 // Puts a cell's line, and answers its length.
 fn put_line(line: &mut [u8; 24], cell: u32) -> usize
-    ensures { λ r. ⌜ Stored (now (line .entry)) 0 (lineOf cell) (now (line .exit)) r ⌝ }
+    ensures { λ r. ⌜ Added (now (line .entry)) 0 (lineOf cell) (now (line .exit)) r ⌝ }
 {
     let instruction = cell::decode(cell);
     match instruction {

@@ -31,7 +31,7 @@ module _ (input cells journal : List ℕ) where
     outcome-ran a = rw (le-ltb 32768 (length input) h, ← e, a)
 
 -- what a job leaves, and where its text ends, leaves no choice
-pub once : {o : Outcome} {room c d j k s t : List ℕ} {m n : ℕ} → Leaves o room c j s m → Leaves o room d k t n → (c ≡ d) × (j ≡ k) × (s ≡ t) × (m ≡ n)
+pub once : {o : Outcome} {room c d j k s t : List ℕ} {at m n : ℕ} → Leaves o room at c j s m → Leaves o room at d k t n → (c ≡ d) × (j ≡ k) × (s ≡ t) × (m ≡ n)
 once p q =
     let e = added-once (p .told .added) (q .told .added) in
     (p .cells ∙ sym (q .cells), p .journal ∙ sym (q .journal), e .0, e .1)

@@ -68,13 +68,13 @@ textOf input = outcomeOf input (replicate 4096 0) (replicate 3200 0) .text
 abbrev pub longest : ℕ
 longest = 4164
 
--- a text is put at the start of the room, as much of it as there is room for, and is not longer than the longest
-pub record Told (before : List ℕ) (text : List ℕ) (after : List ℕ) (next : ℕ) : Type 0 where
-  pub added : Added before 0 text after next
+-- a text is put from a place on, as much of it as there is room for, and is not longer than the longest
+pub record Told (before : List ℕ) (at : ℕ) (text : List ℕ) (after : List ℕ) (next : ℕ) : Type 0 where
+  pub added : Added before at text after next
   pub short : length text ≤ longest
 
 -- what a job leaves in cells and journal, and in the room for its text
-pub record Leaves (o : Outcome) (room : List ℕ) (cells-after : List ℕ) (journal-after : List ℕ) (room-after : List ℕ) (next : ℕ) : Type 0 where
-  pub told : Told room (o .text) room-after next
+pub record Leaves (o : Outcome) (room : List ℕ) (at : ℕ) (cells-after : List ℕ) (journal-after : List ℕ) (room-after : List ℕ) (next : ℕ) : Type 0 where
+  pub told : Told room at (o .text) room-after next
   pub cells : cells-after ≡ o .cells
   pub journal : journal-after ≡ o .journal

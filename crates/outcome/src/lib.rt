@@ -16,20 +16,20 @@ const MOST_INPUT: usize = 32768;
 const BUDGET: u64 = 400;
 
 // Puts the line of a refusal.
-fn put_refused(text: &mut [u8], number: u64, offset: u64) -> usize
-    ensures { λ r. ⌜ Told (now (text .entry)) (refusedText number offset) (now (text .exit)) r ⌝ }
+fn put_refused(text: &mut [u8], at: usize, number: u64, offset: u64) -> usize
+    ensures { λ r. ⌜ Told (now (text .entry)) at (refusedText number offset) (now (text .exit)) r ⌝ }
 {
-    let a = put_number(text, 0, b"refused ", number);
+    let a = put_number(text, at, b"refused ", number);
     let b = put_number(text, a, b" at ", offset);
     put(text, b, b"\n")
 }
 
 // Puts the line of a run.
-fn put_exit(text: &mut [u8], stop: u64, count: u64, pc: u32, flags: u32) -> usize
-    ensures added { λ r. ⌜ Added (now (text .entry)) 0 (exitText stop count pc flags) (now (text .exit)) r ⌝ }
+fn put_exit(text: &mut [u8], at: usize, stop: u64, count: u64, pc: u32, flags: u32) -> usize
+    ensures added { λ r. ⌜ Added (now (text .entry)) at (exitText stop count pc flags) (now (text .exit)) r ⌝ }
     ensures short { λ _. ⌜ length (exitText stop count pc flags) ≤ 84 ⌝ }
 {
-    let a = put_number(text, 0, b"exit ", stop);
+    let a = put_number(text, at, b"exit ", stop);
     let b = put_number(text, a, b" steps ", count);
     let c = put_number(text, b, b" pc ", pc as u64);
     let d = put_number(text, c, b" flags ", flags as u64);
@@ -66,32 +66,44 @@ fn put_registers(text: &mut [u8], at: usize, regs: &[u32; 256]) -> usize
 }
 
 // Puts what became of a run.
-fn put_ran(text: &mut [u8], ran: Ran) -> usize
-    ensures { λ r. ⌜ Told (now (text .entry)) (ranText (saidOf (ran .stop) .number) (ran .count) (ran .machine .regs) (ran .machine .settings .flags)) (now (text .exit)) r ⌝ }
+fn put_ran(text: &mut [u8], at: usize, ran: Ran) -> usize
+    ensures { λ r. ⌜ Told (now (text .entry)) at (ranText (saidOf (ran .stop) .number) (ran .count) (ran .machine .regs) (ran .machine .settings .flags)) (now (text .exit)) r ⌝ }
 {
     let m = ran.machine;
     let stop = ran.stop;
     let regs = m.regs;
     let settings = m.settings;
-    let a = put_exit(text, stop.number(), ran.count, regs[255], settings.flags);
+    let a = put_exit(
+        text,
+        at,
+        stop.number(),
+        ran.count,
+        regs[255],
+        settings.flags,
+    );
     put_registers(text, a, &regs)
 }
 
-// Loads a job into the cells, runs it over them and the journal, and puts what became of it into the room for its text. Answers
-// where the text ends.
-pub fn run_job(input: &[u8], cells: &mut [u32], journal: &mut [u32], text: &mut [u8]) -> usize
-    ensures { λ r. ⌜ Leaves (outcomeOf (now (input .entry)) (now (cells .entry)) (now (journal .entry))) (now (text .entry)) (now (cells .exit)) (now (journal .exit)) (now (text .exit)) r ⌝ }
+// Loads a job into the cells, runs it over them and the journal, and puts what became of it into a text. Answers where that ends.
+pub fn run_job(
+    text: &mut [u8],
+    at: usize,
+    input: &[u8],
+    cells: &mut [u32],
+    journal: &mut [u32],
+) -> usize
+    ensures { λ r. ⌜ Leaves (outcomeOf (now (input .entry)) (now (cells .entry)) (now (journal .entry))) (now (text .entry)) at (now (cells .exit)) (now (journal .exit)) (now (text .exit)) r ⌝ }
 {
     if MOST_INPUT < input.len() {
-        return put_refused(text, 50, 32768);
+        return put_refused(text, at, 50, 32768);
     }
     let loaded = job::load(input, cells);
     let answer = loaded.answer;
     match answer {
-        Answer::Refused { why, offset } => put_refused(text, why.number(), offset as u64),
+        Answer::Refused { why, offset } => put_refused(text, at, why.number(), offset as u64),
         Answer::Done => {
             let ran = machine::run(loaded.machine, cells, journal, BUDGET);
-            put_ran(text, ran)
+            put_ran(text, at, ran)
         }
     }
 }

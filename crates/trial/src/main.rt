@@ -34,10 +34,11 @@ fn answer_one(
     payload: &mut [u8],
     cells: &mut [u32],
     journal: &mut [u32],
+    room: &mut [u8],
     text: &mut [u8],
 ) -> bool {
     let read = io::read_full(STDIN_FILENO, payload);
-    let end = trials::answer(text, number, kind, &payload[..read], cells, journal);
+    let end = trials::answer(text, number, kind, &payload[..read], cells, journal, room);
     io::write_all(STDOUT_FILENO, &text[..end])
 }
 
@@ -47,6 +48,7 @@ fn next(
     payload: &mut [u8],
     cells: &mut [u32],
     journal: &mut [u32],
+    room: &mut [u8],
     text: &mut [u8],
 ) -> bool {
     let mut head = [0u8; 5];
@@ -55,7 +57,15 @@ fn next(
         return false;
     }
     let size = length_of(&head, payload);
-    answer_one(number, head[0], &mut payload[..size], cells, journal, text)
+    answer_one(
+        number,
+        head[0],
+        &mut payload[..size],
+        cells,
+        journal,
+        room,
+        text,
+    )
 }
 
 // The same, with all the room that the program has.
@@ -64,19 +74,28 @@ fn turn(
     payload: &mut [u8; 40000],
     cells: &mut [u32; 16500],
     journal: &mut [u32; 70000],
+    room: &mut [u8; 70000],
     text: &mut [u8; 1048576],
 ) -> bool {
-    next(number, payload, cells, journal, text)
+    next(number, payload, cells, journal, room, text)
 }
 
 fn main() {
     let mut payload = [0u8; 40000];
     let mut cells = [0u32; 16500];
     let mut journal = [0u32; 70000];
+    let mut room = [0u8; 70000];
     let mut text = [0u8; 1048576];
     let mut number: u64 = 0;
     while number < 1048576 {
-        if !turn(number, &mut payload, &mut cells, &mut journal, &mut text) {
+        if !turn(
+            number,
+            &mut payload,
+            &mut cells,
+            &mut journal,
+            &mut room,
+            &mut text,
+        ) {
             return;
         }
         number += 1;

@@ -1,18 +1,15 @@
--- Parts that are lent on: how long they are, and what a text is after a piece was put into its end.
+-- Parts that are lent on: how long they are; and the text of each kind that works on what is lent.
 -- Assumes nothing.
-use Prim.Native.Nat.{ℕ, _+_, _-_, _≤_, _<_, min}
+use Prim.Native.Nat.{ℕ, _-_, _≤_, _<_, min}
 use mathlib.Core.Path.{_≡_, sym, ap, _∙_}
 use mathlib.Core.List.{List, []}
 use mathlib.Core.Logic.{⊎-elim}
 use native.Mathlib.Omega.{arith}
 use borrow.Author.Tests.{ne-eqb}
-use borrow.Rule.Slice.PartMut.{midOf, putMid, mid-len}
 use lib.ListN.{length, take, drop, replicate, length-drop, drop-of-length-le}
-use lib.Seq.{sets, take-all, length-take-le}
-use Rattle.machine.proofs.Parts.{part-sets}
+use lib.Seq.{take-all, length-take-le}
 use Rattle.outcome.specs.Outcome.{outcomeOf}
-use Rattle.text.specs.Text.{Added}
-use Rattle.text.proofs.Adds.{sets-cut, below}
+use Rattle.text.proofs.Adds.{below}
 use Rattle.trials.specs.Payload.{wordAt}
 use Rattle.trials.specs.Calls.{callsAnswer}
 use Rattle.trials.specs.Jobs.{jobText, runText, savingText}
@@ -31,21 +28,6 @@ rest-behind s n r e =
     ⊎-elim (λ (h : n < length s). let q : n ≡ r = omega (arith, e, h) in ap (λ (k : ℕ). drop k s) q ∙ sym (take-all (length s - r) (drop r s) (omega (arith, length-drop r s))))
     (λ (h : length s ≤ n). drop-of-length-le s h ∙ sym (ap (take (length s - r)) (drop-of-length-le s {i = r} (omega (arith, e, h))) ∙ take-all (length s - r) [] (omega arith)))
     (below n (length s))
-
--- a piece put at the start of what lies behind a place is put at that place
-pub added-behind : (l p m : List ℕ) (at r : ℕ) → at ≤ length l → Added (midOf at (length l - at) l) 0 p m r → Added l at p (putMid at (length l - at) l m) (at + r)
-added-behind l p m at r h a =
-    let n : length (midOf at (length l - at) l) ≡ length l - at = mid-len at (length l) l (omega arith) in
-    record {
-      end = omega (arith, a .end, n, h);
-      text = ap (putMid at (length l - at) l) (a .text)
-          ∙ ⊎-elim (λ (k : length p < length l - at). part-sets l p at (omega (arith, k, h)))
-          (λ (k : length l - at ≤ length p).
-          ap (putMid at (length l - at) l) (sym (sets-cut p (midOf at (length l - at) l) 0 (length l - at) k (omega (arith, n))))
-          ∙ part-sets l (take (length l - at) p) at (omega (arith, length-take-le (length l - at) p k, h))
-          ∙ sets-cut p l at (length l - at) k (omega (arith, h)))
-          (below (length p) (length l - at));
-    }
 
 -- a run on cells and a journal that hold 0
 pub run-on : (job cells journal : List ℕ) (m words : ℕ) → cells ≡ replicate m 0 → journal ≡ replicate words 0 → runText job m words ≡ outcomeOf job cells journal .text

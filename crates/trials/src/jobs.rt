@@ -1,6 +1,5 @@
 // The answers to trials of jobs.
 ghost use mathlib.Core.List.{[]};
-ghost use Prim.Native.Nat.{_≤_};
 ghost use lib.ListN.{length, replicate};
 ghost use Rattle.text.specs.Text.{Added};
 ghost use Rattle.job.specs.Job.{saidOf, loadWith, loadOf};
@@ -126,10 +125,9 @@ pub(crate) fn put_run(
     cells: &mut [u32],
     journal: &mut [u32],
 ) -> usize
-    requires { ⌜ at ≤ length (now text) ⌝ }
     ensures { λ r. ⌜ Added (now (text .entry)) at (runText (now (job .entry)) (length (now (cells .entry))) (length (now (journal .entry)))) (now (text .exit)) r ⌝ }
 {
     fill(cells, 0);
     fill(journal, 0);
-    at + outcome::run_job(job, cells, journal, &mut text[at..])
+    outcome::run_job(text, at, job, cells, journal)
 }

@@ -1,48 +1,42 @@
--- `line::put_immediate` meets its contract: the pieces, stored one after the other, are the line, and fit in 24 bytes.
-use native.Mathlib.Omega.{arith}
+-- `line::put_immediate` meets its contract: the pieces, put one after the other, are the line.
+use Rattle.text.proofs.Adds.{added-then}
 use borrow.Author.Needs.{needs}
-use Rattle.cell.specs.declared.Instruction.the-variants.{Immediate}
-use Rattle.line.proofs.Stores.{stored-then}
-use Rattle.line.proofs.Sizes.{Sized, immediate-sized}
 use Rattle.line.proofs.put_immediate.Statement.{statement}
 use Rattle.line.proofs.put_immediate.Tie as tie
-
-sized : (c : tie.Start) → Sized (Immediate (c .args .opcode) (c .args .n) (c .args .imm))
-sized c = immediate-sized (c .args .opcode) (c .args .n) (c .args .imm) (c .pre) (c .fits .n .fits) (c .fits .imm .fits)
 
 put-word-requires : tie.Need-put-word-requires
 put-word-requires c κs = search needs
 
-slice-aggregate-put-operand : tie.Need-slice-aggregate-put-operand
-slice-aggregate-put-operand c = search needs
+slice-aggregate-put-number : tie.Need-slice-aggregate-put-number
+slice-aggregate-put-number c = search needs
 
-put-operand-requires : tie.Need-put-operand-requires
-put-operand-requires c κs = omega (arith, sized (c .before .before .before .before))
+put-number-requires : tie.Need-put-number-requires
+put-number-requires c κs = search needs
 
-slice-aggregate-put-operand-2 : tie.Need-slice-aggregate-put-operand-2
-slice-aggregate-put-operand-2 c = search needs
+slice-aggregate-put-number-2 : tie.Need-slice-aggregate-put-number-2
+slice-aggregate-put-number-2 c = search needs
 
-put-operand-requires-2 : tie.Need-put-operand-requires-2
-put-operand-requires-2 c κs = omega (arith, sized (c .before .before .before .before .before .before .before))
+put-number-requires-2 : tie.Need-put-number-requires-2
+put-number-requires-2 c κs = search needs
 
 slice-aggregate-put : tie.Need-slice-aggregate-put
 slice-aggregate-put c = search needs
 
 put-requires : tie.Need-put-requires
-put-requires c κs = omega (arith, sized (c .before .before .before .before .before .before .before .before .before .before))
+put-requires c κs = search needs
 
 returns : tie.Need-returns
-returns c = stored-then _ _ (stored-then _ _ (stored-then _ _ (c .before .before .before .before .before .before .before .before .before .put-word .ensures) (c .before .before .before .before .before .before .put-operand .ensures)) (c .before .before .before .put-operand2 .ensures)) (c .put .ensures)
+returns c = added-then _ _ (added-then _ _ (added-then _ _ (c .before .before .before .before .before .before .before .before .before .put-word .ensures) (c .before .before .before .before .before .before .put-number .ensures)) (c .before .before .before .put-number2 .ensures)) (c .put .ensures)
 
 pub put-immediate-spec : {M : Type 1} → statement M
 put-immediate-spec =
     tie.close
     (tie.spec
     put-word-requires
-    slice-aggregate-put-operand
-    put-operand-requires
-    slice-aggregate-put-operand-2
-    put-operand-requires-2
+    slice-aggregate-put-number
+    put-number-requires
+    slice-aggregate-put-number-2
+    put-number-requires-2
     slice-aggregate-put
     put-requires
     returns)

@@ -1,9 +1,6 @@
--- `line::put_word` meets its contract: what is stored is the word, the first bytes of its row.
-use mathlib.Core.Path.{_≡_}
-use Prim.Native.Nat.{_*_, _-_}
+-- `line::put_word` meets its contract: what is put is the word, the first bytes of its row.
 use native.Mathlib.Omega.{arith}
-use lib.ListN.{take, drop}
-use Rattle.line.specs.Line.{mnemonics, wordOf}
+use Rattle.line.specs.Line.{mnemonics}
 use Rattle.line.proofs.Words.{rows, word-part, word-short}
 use borrow.Author.Needs.{needs}
 use Rattle.line.proofs.put_word.Statement.{statement}
@@ -22,23 +19,18 @@ part-put-start : tie.Need-part-put-start
 part-put-start c = search needs
 
 part-put-end : tie.Need-part-put-end
-part-put-end c = omega (arith, c .before .before .word-end .ensures, word-short (c .before .before .before .before .args .x) (c .before .before .before .before .pre .0))
-
--- the part of the table is the word
-piece : (c : tie.After-put-arg3) → take (c .before .before .before .word-end .result - 8 * c .before .before .before .before .before .args .x) (drop (8 * c .before .before .before .before .before .args .x) rows) ≡ wordOf (c .before .before .before .before .before .args .x)
-piece c =
-    word-part (c .before .before .before .before .before .args .x) (c .before .before .before .before .before .pre .0) (c .before .before .before .word-end .ensures)
+part-put-end c = omega (arith, c .before .before .word-end .ensures, word-short (c .before .before .before .before .args .x) (c .before .before .before .before .pre))
 
 put-requires : tie.Need-put-requires
-unfolding rows mnemonics
-put-requires c κs = rw (piece c) (omega (arith, word-short (c .before .before .before .before .before .args .x) (c .before .before .before .before .before .pre .0)))
+put-requires c κs = search needs
 
 same-length : tie.Need-same-length
 same-length c = search needs
 
 returns : tie.Need-returns
 unfolding rows mnemonics
-returns c = rw (piece (c .before .before .before)) at (c .before .before .put .ensures)
+returns c = let s = c .before .before .before .before .before .before .before .before in
+    rw (word-part (s .args .x) (s .pre) (c .before .before .before .before .before .before .word-end .ensures)) at (c .before .before .put .ensures)
 
 pub put-word-spec : {M : Type 1} → statement M
 put-word-spec =

@@ -6,7 +6,7 @@ use lib.Dec.{lit<}
 use lib.ListN.{drop}
 use Rattle.cell.specs.Cell.{Said, encodeOf}
 use Rattle.cell.specs.declared.Operands.the-variants as operands
-use Rattle.line.specs.Line.{bytes}
+use Rattle.text.specs.Text.{bytes}
 use Rattle.line.specs.Reading.{seen, taken, missing, fieldOf, finished, registersOf}
 use Rattle.line.proofs.Numbers.{field-true}
 use Rattle.line.proofs.read_registers.Statement.{statement}

@@ -5,10 +5,10 @@ use Rattle.trial.proofs.main.Statement.{statement}
 use Rattle.trial.proofs.main.Tie as tie
 
 abbrev Inv-loop : tie.InvT-loop
-Inv-loop payload₀ cells₀ journal₀ text₀ number₀ payload cells journal text number = Unit {0}
+Inv-loop payload₀ cells₀ journal₀ room₀ text₀ number₀ payload cells journal room text number = Unit {0}
 
 abbrev μ-loop : tie.MeasureT-loop
-μ-loop payload₀ cells₀ journal₀ text₀ number₀ payload cells journal text number = 1048576 - number
+μ-loop payload₀ cells₀ journal₀ room₀ text₀ number₀ payload cells journal room text number = 1048576 - number
 
 loop-holds : tie.Need-loop-holds Inv-loop μ-loop
 loop-holds c = tt

@@ -1,5 +1,5 @@
 -- `trials::jobs::put_run` meets its contract: the job is run on cells and a journal of 0.
-use Rattle.trials.proofs.Parts.{added-behind, run-on}
+use Rattle.trials.proofs.Parts.{run-on}
 use borrow.Author.Needs.{needs}
 use Rattle.trials.proofs.jobs.put_run.Statement.{statement}
 use Rattle.trials.proofs.jobs.put_run.Tie as tie
@@ -10,20 +10,8 @@ fill-requires c κs = search needs
 fill-requires-2 : tie.Need-fill-requires-2
 fill-requires-2 c κs = search needs
 
-sub-run-job : tie.Need-sub-run-job
-sub-run-job c = search needs
-
-part-run-job-start : tie.Need-part-run-job-start
-part-run-job-start c = search needs
-
-part-run-job-end : tie.Need-part-run-job-end
-part-run-job-end c = search needs
-
 run-job-requires : tie.Need-run-job-requires
 run-job-requires c κs = search needs
-
-add-result : tie.Need-add-result
-add-result c = search needs
 
 same-length : tie.Need-same-length
 same-length c = search needs
@@ -35,7 +23,7 @@ same-length-3 : tie.Need-same-length-3
 same-length-3 c = search needs
 
 returns : tie.Need-returns
-returns c = rw (run-on _ _ _ _ _ (c .before .before .before .before .before .before .before .before .before .before .before .before .before .before .before .before .fill .ensures) (c .before .before .before .before .before .before .before .before .before .before .before .before .fill2 .ensures)) (added-behind (c .before .before .before .before .before .before .before .before .before .before .before .before .before .before .before .before .before .before .before .before .before .before .args .text .now) _ _ (c .before .before .before .before .before .before .before .before .before .before .before .before .before .before .before .before .before .before .before .before .before .before .args .at) _ (c .before .before .before .before .before .before .before .before .before .before .before .before .before .before .before .before .before .before .before .before .before .before .pre) (c .before .before .before .before .before .before .run-job .ensures .told .added))
+returns c = rw (run-on _ _ _ _ _ (c .before .before .before .before .before .before .before .before .before .before .before .before .before .before .before .before .fill .ensures) (c .before .before .before .before .before .before .before .before .before .before .before .before .fill2 .ensures)) (c .before .before .before .before .before .before .run-job .ensures .told .added)
 
 pub put-run-spec : {M : Type 1} → statement M
 put-run-spec =
@@ -43,11 +31,7 @@ put-run-spec =
     (tie.spec
     fill-requires
     fill-requires-2
-    sub-run-job
-    part-run-job-start
-    part-run-job-end
     run-job-requires
-    add-result
     same-length
     same-length-2
     same-length-3
