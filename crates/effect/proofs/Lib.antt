@@ -1,3 +1,5 @@
 pub mod Pointers
 pub mod Safe
 pub mod Ranges
+pub mod Short
+pub mod Opcodes

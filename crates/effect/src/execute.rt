@@ -1,24 +1,58 @@
 // The instruction at PC: refused by stop 6 or 5, or its effect. Nothing is written here.
 ghost use mathlib.Core.Path.{_≡_};
 ghost use Prim.Native.Nat.{_<_};
-ghost use mathlib.Core.List.{[]};
+ghost use mathlib.Core.Bool.{cond};
 ghost use lib.ListN.{length};
 ghost use Rattle.cell.specs.Cell.{decodeOf};
-ghost use Rattle.cell.specs.declared.Instruction.the-variants.{Registers, Immediate};
+ghost use Rattle.word.specs.Word.{seOf, askedOf};
 ghost use Rattle.effect.specs.Operands.{firstSpecial, nextOf, operandOf};
-ghost use Rattle.effect.specs.Effect.{loadOf, registersOf, immediateOf};
+ghost use Rattle.effect.specs.Effect.{loadOf, writesOf};
 ghost use Rattle.effect.specs.Refusal.{floats, faults};
-ghost use Rattle.effect.specs.Inner.{consideredOf};
+ghost use Rattle.effect.specs.Inner.{takesImm, atLength, transferOf, remainingOf, branchOf, consideredOf};
 use crate::Address;
 use crate::Effect;
 use crate::Settings;
 use crate::effects;
-use cell::Instruction;
+use word::Flag;
+use word::Operated;
 
-// What becomes of an instruction: stop 6, stop 5, or an effect.
+// What becomes of an instruction: stop 6, stop 5, or what it does. Most instructions say that in short, so that little is handed
+// on: the next PC, with the flags and those that were written as 1; register n and its value; a cell and its value; two registers,
+// a before b or b before a. The others say the whole effect.
 pub enum Considered {
     Float,
     Fault,
+    Still {
+        pc: u32,
+        raised: u32,
+        flags: u32,
+    },
+    Writes {
+        value: u32,
+        raised: u32,
+        flags: u32,
+        n: u8,
+        pc: u32,
+    },
+    Stores {
+        value: u32,
+        address: u32,
+        pc: u32,
+    },
+    Splits {
+        first: u32,
+        second: u32,
+        pc: u32,
+        a: u8,
+        b: u8,
+    },
+    Swaps {
+        first: u32,
+        second: u32,
+        pc: u32,
+        a: u8,
+        b: u8,
+    },
     Does(Effect),
 }
 
@@ -61,111 +95,168 @@ fn load(cells: &[u32], s: Settings, p: u32) -> u32
     s.mode
 }
 
-// The effect of an instruction of three registers, from their values.
-fn registers(
-    opcode: u8,
-    n: u8,
-    m: u8,
-    l: u8,
-    rn: u32,
-    rm: u32,
-    rl: u32,
-    loaded: u32,
-    pc: u32,
-    s: Settings,
-) -> Effect
-    ensures { λ r. ⌜ r ≡ registersOf opcode n m l rn rm rl loaded pc s ⌝ }
+// Whether an opcode is one of 35 to 53, which act on Rn and se(imm).
+fn takes_imm(opcode: u8) -> bool
+    ensures { λ r. ⌜ r ≡ takesImm opcode ⌝ }
 {
-    match opcode {
-        0 => effects::cpswp(n, l, rn, rm, pc, s),
-        1 => effects::ldst(n, rn, rm, rl, loaded, pc, s),
-        54 => effects::split(m, l, rn, pc, s),
-        107 => effects::fsplit(m, l, rn, pc, s),
-        _ => effects::operation(opcode, n, rm, rl, rn, pc, s),
+    (35 <= opcode) & (opcode <= 53)
+}
+
+// The operands of an instruction: Rn and se(imm) for those that act on them, else Rm and Rl.
+fn first(opcode: u8, rn: u32, regs: &[u32; 256], m: u8, next: u32) -> u32
+    requires { ⌜ next ≡ nextOf (now regs) ⌝ }
+    ensures { λ r. ⌜ r ≡ cond (takesImm opcode) rn (operandOf (now (regs .entry)) m) ⌝ }
+{
+    if takes_imm(opcode) {
+        rn
+    } else {
+        operand(regs, m, next)
     }
 }
 
-// The effect of an instruction of a register and an immediate, from the register's value.
-fn immediate(opcode: u8, n: u8, imm: u16, rn: u32, pc: u32, s: Settings) -> Effect
-    ensures { λ r. ⌜ r ≡ immediateOf opcode n imm rn pc s ⌝ }
+fn second(opcode: u8, imm: u16, regs: &[u32; 256], l: u8, next: u32) -> u32
+    requires { ⌜ next ≡ nextOf (now regs) ⌝ }
+    ensures { λ r. ⌜ r ≡ cond (takesImm opcode) (seOf imm) (operandOf (now (regs .entry)) l) ⌝ }
 {
-    match opcode {
-        3 => effects::writes(n, rn / 65536 * 65536 + imm as u32, pc, s),
-        4 => effects::writes(n, imm as u32 * 65536 + rn % 65536, pc, s),
-        5 => effects::writes(n, imm as u32, pc, s),
-        6 => effects::writes(n, word::se(imm), pc, s),
-        7 => effects::writes(n, word::ex(imm), pc, s),
-        121 => effects::bz(rn, imm, pc, s),
-        122 => effects::int(rn, imm, pc, s),
-        _ => effects::operation(opcode, n, rn, word::se(imm), rn, pc, s),
+    if takes_imm(opcode) {
+        word::se(imm)
+    } else {
+        operand(regs, l, next)
     }
 }
 
-// What becomes of an instruction of three registers.
-fn consider_registers(
-    opcode: u8,
-    n: u8,
-    m: u8,
-    l: u8,
-    regs: &[u32; 256],
-    cells: &[u32],
-    pc: u32,
-    s: Settings,
-) -> Considered
-    requires { ⌜ pc ≡ nextOf (now regs) ⌝ }
-    ensures { λ r. ⌜ r ≡ consideredOf (Registers opcode n m l) (now (regs .entry)) s (now (cells .entry)) ⌝ }
+// Register n gets a value, and no flag is written.
+fn writes(n: u8, value: u32, pc: u32, s: Settings) -> Considered
+    ensures { λ r. ⌜ atLength s r ≡ Considered.Does (writesOf n value pc s) ⌝ }
 {
-    if is_float(opcode) {
-        return Considered::Float;
+    Considered::Writes {
+        value,
+        raised: 0,
+        flags: s.flags,
+        n,
+        pc,
     }
-    let rn = operand(regs, n, pc);
-    let rm = operand(regs, m, pc);
-    let rl = operand(regs, l, pc);
-    if opcode == 1 {
-        if is_fault(cells.len(), rl) {
-            return Considered::Fault;
+}
+
+// LDST, whose load pointer is l and whose store pointer is m.
+fn transfer(n: u8, rn: u32, m: u32, l: u32, cells: &[u32], pc: u32, s: Settings) -> Considered
+    ensures { λ r. ⌜ atLength s r ≡ transferOf n rn m l pc s (now (cells .entry)) ⌝ }
+{
+    if is_fault(cells.len(), l) {
+        return Considered::Fault;
+    }
+    if is_fault(cells.len(), m) {
+        return Considered::Fault;
+    }
+    if m == 0 {
+        if l == 0 {
+            return Considered::Still {
+                pc,
+                raised: 0,
+                flags: s.flags,
+            };
         }
-        if is_fault(cells.len(), rm) {
-            return Considered::Fault;
+        if l < Address::FLAGS {
+            return writes(n, cells[l as usize], pc, s);
         }
-        let value = load(cells, s, rl);
-        return Considered::Does(registers(opcode, n, m, l, rn, rm, rl, value, pc, s));
+        return Considered::Does(effects::ldst(n, rn, m, l, load(cells, s, l), pc, s));
     }
-    Considered::Does(registers(opcode, n, m, l, rn, rm, rl, 0, pc, s))
+    if l == 0 {
+        if m < Address::FLAGS {
+            return Considered::Stores {
+                value: rn,
+                address: m,
+                pc,
+            };
+        }
+    }
+    Considered::Does(effects::ldst(n, rn, m, l, load(cells, s, l), pc, s))
 }
 
-// What becomes of an instruction of a register and an immediate.
-fn consider_immediate(
-    opcode: u8,
-    n: u8,
-    imm: u16,
-    regs: &[u32; 256],
-    pc: u32,
-    s: Settings,
-) -> Considered
-    requires { ⌜ pc ≡ nextOf (now regs) ⌝ }
-    ensures { λ r. ⌜ r ≡ consideredOf (Immediate opcode n imm) (now (regs .entry)) s [] ⌝ }
+// An opcode from 16 to 53, a float opcode, or a reserved one.
+fn operated(opcode: u8, n: u8, m: u32, l: u32, rn: u32, pc: u32, s: Settings) -> Considered
+    ensures { λ r. ⌜ atLength s r ≡ remainingOf (askedOf opcode) (floats opcode) n m l rn pc s ⌝ }
 {
-    if is_float(opcode) {
-        return Considered::Float;
+    let done = word::operate(opcode, m, l, rn, s.flags);
+    match done {
+        Operated::Wrote(w) => Considered::Writes {
+            value: w.value,
+            raised: w.raised,
+            flags: (s.flags & !w.governed) | w.raised,
+            n,
+            pc,
+        },
+        Operated::Nothing => {
+            if is_float(opcode) {
+                return Considered::Float;
+            }
+            Considered::Still {
+                pc,
+                raised: Flag::ILLEGAL,
+                flags: s.flags | Flag::ILLEGAL,
+            }
+        }
     }
-    let rn = operand(regs, n, pc);
-    Considered::Does(immediate(opcode, n, imm, rn, pc, s))
+}
+
+// BZ: if Rn is 0, PC gains se(imm).
+fn branch(rn: u32, imm: u16, pc: u32) -> u32
+    ensures { λ r. ⌜ r ≡ branchOf rn imm pc ⌝ }
+{
+    if rn == 0 {
+        std::num::wrapping_add_u32(pc, word::se(imm))
+    } else {
+        pc
+    }
 }
 
 // What becomes of the instruction that a cell is.
 pub fn consider(cell: u32, regs: &[u32; 256], cells: &[u32], s: Settings) -> Considered
-    ensures { λ r. ⌜ r ≡ consideredOf (decodeOf cell) (now (regs .entry)) s (now (cells .entry)) ⌝ }
+    ensures { λ r. ⌜ atLength s r ≡ consideredOf (decodeOf cell) (now (regs .entry)) s (now (cells .entry)) ⌝ }
 {
     let pc = std::num::wrapping_add_u32(regs[255], 1);
-    let instruction = cell::decode(cell);
-    match instruction {
-        Instruction::Registers { opcode, n, m, l } => {
-            consider_registers(opcode, n, m, l, regs, cells, pc, s)
-        }
-        Instruction::Immediate { opcode, n, imm } => {
-            consider_immediate(opcode, n, imm, regs, pc, s)
-        }
-        Instruction::Reserved(_) => Considered::Does(effects::illegal(pc, s)),
+    let opcode = (cell / 16777216) as u8;
+    let n = (cell / 65536 % 256) as u8;
+    let m = (cell / 256 % 256) as u8;
+    let l = (cell % 256) as u8;
+    let imm = (cell % 65536) as u16;
+    let rn = operand(regs, n, pc);
+    let x = first(opcode, rn, regs, m, pc);
+    let y = second(opcode, imm, regs, l, pc);
+    match opcode {
+        0 => Considered::Swaps {
+            first: x,
+            second: rn,
+            pc,
+            a: n,
+            b: l,
+        },
+        1 => transfer(n, rn, x, y, cells, pc, s),
+        3 => writes(n, rn / 65536 * 65536 + imm as u32, pc, s),
+        4 => writes(n, imm as u32 * 65536 + rn % 65536, pc, s),
+        5 => writes(n, imm as u32, pc, s),
+        6 => writes(n, word::se(imm), pc, s),
+        7 => writes(n, word::ex(imm), pc, s),
+        54 => Considered::Splits {
+            first: word::se((rn % 65536) as u16),
+            second: word::se((rn / 65536) as u16),
+            pc,
+            a: m,
+            b: l,
+        },
+        107 => Considered::Splits {
+            first: word::ex((rn % 65536) as u16),
+            second: word::ex((rn / 65536) as u16),
+            pc,
+            a: m,
+            b: l,
+        },
+        121 => Considered::Still {
+            pc: branch(rn, imm, pc),
+            raised: 0,
+            flags: s.flags,
+        },
+        122 => Considered::Does(effects::int(rn, imm, pc, s)),
+        _ => operated(opcode, n, x, y, rn, pc, s),
     }
 }

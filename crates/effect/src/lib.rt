@@ -47,15 +47,15 @@ pub enum Answer {
     Interrupt { value: u32, imm: u16 },
 }
 
-// What an instruction does: the next PC, at most two registers (b first if reversed), at most one cell, the settings, and the
-// flags that it wrote as 1.
+// What an instruction does: the next PC, the flags that it wrote as 1, the settings, at most two registers (b first if reversed),
+// at most one cell.
 pub struct Effect {
     pub pc: u32,
+    pub raised: u32,
+    pub settings: Settings,
     pub a: Write,
     pub b: Write,
     pub reversed: bool,
     pub store: Store,
-    pub settings: Settings,
-    pub raised: u32,
     pub answer: Answer,
 }

@@ -12,13 +12,16 @@ use borrow.Author.Tests.{lt-leb, le-leb, eqb-true}
 use Rattle.cell.specs.declared.Instruction.{Instruction}
 use Rattle.cell.specs.declared.Instruction.the-variants.{Registers, Immediate, Reserved}
 use Rattle.effect.specs.declared.Effect.{Effect}
+use Rattle.effect.specs.declared.Settings.{Settings}
+use Rattle.effect.specs.declared.execute.Considered.{Considered}
 use Rattle.effect.specs.declared.execute.Considered.the-variants.{Float, Fault, Does}
 use Rattle.machine.specs.State.{State, capacityOf}
 use Rattle.effect.specs.Operands.{firstSpecial, pcOf, operandOf}
 use Rattle.machine.specs.Journal.{applyOf}
 use Rattle.effect.specs.Refusal.{floats, faults, refusedBy}
 use Rattle.machine.specs.Calls.{instructionOf, refusalOf, effectIn, plainly, Course, refused, stopped, answered, courseOf, stepOf}
-use Rattle.effect.specs.Inner.{InRange, considered, consideredOf}
+use Rattle.machine.specs.Inner.{doneOf}
+use Rattle.effect.specs.Inner.{InRange, atLength, considered, consideredOf}
 use Rattle.effect.proofs.Safe.{Safe, safe}
 
 module _ (s : State) where
@@ -26,9 +29,16 @@ module _ (s : State) where
   unfolding stepOf
   refused-with k h = rw h
 
-  pub done-with : (e : Effect) → refusalOf s ≡ none → effectIn s ≡ e → record { state = applyOf e s; course = courseOf e (s .regs) } ≡ stepOf s
+  pub done-with : (e : Effect) → refusalOf s ≡ none → effectIn s ≡ e → doneOf e s ≡ stepOf s
   unfolding stepOf
   done-with e h i = rw (h, i)
+
+  -- the state and the course that carrying an effect out leaves
+  pub done-as : (e : Effect) (x : State) (v : Course) → x ≡ applyOf e s
+      → v ≡ cond (leb firstSpecial (pcOf (x .regs))) (stopped (plainly 1)) (answered (e .answer) e)
+      → record { state = x; course = v } ≡ doneOf e s
+  unfolding courseOf
+  done-as e x v p q = rw (q, p)
 
   pub at-end : firstSpecial ≤ pcOf (s .regs) → refusalOf s ≡ some 1
   unfolding refusalOf
@@ -53,9 +63,22 @@ pub room : (journal : List ℕ) (depth : ℕ) → depth < capacityOf journal →
 unfolding capacityOf
 room journal depth h = omega arith
 
+-- J goes by the journal's length alone
+pub as-much : (a b : List ℕ) → length a ≡ length b → capacityOf a ≡ capacityOf b
+unfolding capacityOf
+as-much a b e = rw e
+
+pub few : (journal : List ℕ) (depth : ℕ) → depth < capacityOf journal → depth < 65536
+unfolding capacityOf
+few journal depth h = omega arith
+
 pub entries : (journal : List ℕ) (depth : ℕ) → depth ≤ capacityOf journal → 8 * depth ≤ length journal
 unfolding capacityOf
 entries journal depth h = omega arith
+
+-- what was considered, by the case that it is
+pub read-as : (s : Settings) (r x y : Considered) → r ≡ x → atLength s r ≡ y → atLength s x ≡ y
+read-as s r x y e h = rw (← e) h
 
 -- what was considered tells the refusal
 never : {P : Type 0} → _≡_ {A = ℕ} 0 1 → P
@@ -115,8 +138,5 @@ module _ (s : State) (same : refusalOf s ≡ refusedBy (instructionOf s) (s .reg
     unfolding consideredOf effectIn
     safe-does in-range = rw (← does) (safe (length (s .cells)) (s .settings) in-range (instructionOf s) (s .regs) _ (does-is _ _ e (sym h) .0))
 
-    pub done-as : (x : State) (v : Course) → x ≡ applyOf e s
-        → v ≡ cond (leb firstSpecial (pcOf (x .regs))) (stopped (plainly 1)) (answered (e .answer) e)
-        → record { state = x; course = v } ≡ stepOf s
-    unfolding courseOf
-    done-as x v p q = rw (q, p) (done-with s e not-refused does)
+    pub does-step : doneOf e s ≡ stepOf s
+    does-step = done-with s e not-refused does

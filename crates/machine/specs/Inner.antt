@@ -11,13 +11,14 @@ use Rattle.effect.specs.declared.Settings.{Settings}
 use Rattle.effect.specs.declared.Effect.{Effect}
 use Rattle.machine.specs.declared.turn.Verdict.{Verdict}
 use Rattle.machine.specs.declared.turn.Verdict.the-variants.{Going, Stopped, Refused}
+use Rattle.machine.specs.declared.turn.Advanced.{Advanced}
 use Rattle.machine.specs.declared.Checked.{Checked}
 use Rattle.machine.specs.declared.Checked.the-variants.{Fine, Bad}
 use Rattle.machine.specs.State.{State, capacityOf}
 use Rattle.machine.specs.declared.undo.Returned.{Returned}
 use Rattle.machine.specs.declared.undo.Returned.the-variants.{Back, Start, Damaged}
-use Rattle.machine.specs.Journal.{lastOf, damagedOf, undoOf}
-use Rattle.machine.specs.Calls.{Said, plainly, saidOf, Course, going, stopped, refused}
+use Rattle.machine.specs.Journal.{applyOf, lastOf, damagedOf, undoOf}
+use Rattle.machine.specs.Calls.{Said, plainly, saidOf, Course, going, stopped, refused, courseOf, Moved}
 
 -- a store is to a cell
 abbrev pub Stores : Effect → List ℕ → Type 0
@@ -26,6 +27,10 @@ Stores e cells = e .store .used ≡ true → e .store .address < length cells
 -- registers, settings, depth, cells and journal, each by itself
 abbrev pub stateWith : List ℕ → Settings → ℕ → List ℕ → List ℕ → State
 stateWith regs s depth cells journal = record { regs = regs; settings = s; depth = depth; cells = cells; journal = journal }
+
+-- what carrying an effect out makes of a step
+abbrev pub doneOf : Effect → State → Moved
+doneOf e s = record { state = applyOf e s; course = courseOf e (s .regs) }
 
 -- what one step back leaves: the state, and the stop's number, none where the step was taken back
 pub record Gone : Type 0 where
@@ -49,6 +54,9 @@ abbrev pub verdictOf : Verdict → Course
 verdictOf Going = going
 verdictOf (Stopped x) = stopped (saidOf x)
 verdictOf (Refused x) = refused (saidOf x)
+
+abbrev pub advancedTo : Advanced → List ℕ → List ℕ → List ℕ → Moved
+advancedTo r regs cells journal = record { state = stateWith regs (r .settings) (r .depth) cells journal; course = verdictOf (r .verdict) }
 
 abbrev pub checkedOf : Checked → Option Said
 checkedOf Fine = none

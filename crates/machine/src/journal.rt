@@ -143,7 +143,7 @@ fn write(part: &mut [u32], w: [u32; 8])
 }
 
 // The part that starts at 8 times depth is lent on.
-fn enter(journal: &mut [u32], depth: u32, w: [u32; 8])
+pub(crate) fn enter(journal: &mut [u32], depth: u32, w: [u32; 8])
     requires { ⌜ 8 * (depth + 1) ≤ length (now journal) ⌝ }
     ensures { λ r. ⌜ now (journal .exit) ≡ sets (now (journal .entry)) (8 * depth) w ⌝ }
 {
@@ -152,7 +152,7 @@ fn enter(journal: &mut [u32], depth: u32, w: [u32; 8])
 }
 
 // A step that leaves PC at 0xFFFF0000 or above sets flag 256.
-fn settle(pc: u32, s: Settings) -> Settings
+pub(crate) fn settle(pc: u32, s: Settings) -> Settings
     ensures { λ r. ⌜ r ≡ settledOf (leb firstSpecial pc) s ⌝ }
 {
     if Address::FLAGS <= pc {

@@ -5,6 +5,7 @@ ghost use Rattle.machine.specs.State.{freshMachine, stateOf, capacityOf}
 ghost use Rattle.machine.specs.Calls.{saidOf, checkOf, outOf, runFrom, backFrom, runOf, backOf};
 ghost use Rattle.machine.specs.Inner.{Ready, checkedOf, saidBy};
 
+mod carry;
 mod journal;
 mod turn;
 mod undo;
@@ -143,8 +144,9 @@ fn run_on(m: Machine, cells: &mut [u32], journal: &mut [u32], budget: u64) -> Ra
     let mut depth = m.depth;
     let mut done: u64 = 0;
     let mut stop = Stop::Done;
+    let most = capacity(journal);
     while done < budget {
-        let step = advance(&mut regs, settings, depth, cells, journal);
+        let step = advance(&mut regs, settings, depth, cells, journal, most);
         settings = step.settings;
         depth = step.depth;
         let verdict = step.verdict;

@@ -3,11 +3,16 @@ ghost use mathlib.Core.Path.{_≡_};
 ghost use mathlib.Core.Bool.{cond};
 ghost use lib.Dec.{leb};
 ghost use Rattle.effect.specs.Operands.{firstSpecial};
+ghost use Rattle.machine.specs.State.{capacityOf};
 ghost use Rattle.machine.specs.Calls.{plainly, stopped, answered, stepOf};
-ghost use Rattle.machine.specs.Inner.{Ready, stateWith, verdictOf};
+ghost use Rattle.machine.specs.Inner.{Ready, stateWith, verdictOf, advancedTo};
 use crate::Stop;
-use crate::capacity;
-use crate::journal::carry_out;
+use crate::carry::does;
+use crate::carry::moves;
+use crate::carry::splits;
+use crate::carry::stores;
+use crate::carry::swaps;
+use crate::carry::writes;
 use effect::Address;
 use effect::Answer;
 use effect::Effect;
@@ -41,7 +46,7 @@ fn refused(settings: Settings, depth: u32, stop: Stop) -> Advanced
 }
 
 // After a step that left PC at pc: 1, 3, 2.
-fn verdict_of(pc: u32, e: Effect) -> Verdict
+pub(crate) fn verdict_of(pc: u32, e: Effect) -> Verdict
     ensures { λ r. ⌜ verdictOf r ≡ cond (leb firstSpecial pc) (stopped (plainly 1)) (answered (e .answer) e) ⌝ }
 {
     if Address::FLAGS <= pc {
@@ -61,16 +66,17 @@ fn verdict_of(pc: u32, e: Effect) -> Verdict
     }
 }
 
-// One step, done or refused.
+// One step, done or refused; J is at hand.
 pub(crate) fn advance(
     regs: &mut [u32; 256],
     s: Settings,
     depth: u32,
     cells: &mut [u32],
     journal: &mut [u32],
+    most: u32,
 ) -> Advanced
-    requires { ⌜ Ready s depth (now journal) ⌝ }
-    ensures { λ r. ⌜ record { state = stateWith (now (regs .exit)) (r .settings) (r .depth) (now (cells .exit)) (now (journal .exit)); course = verdictOf (r .verdict) }
+    requires { ⌜ Ready s depth (now journal) × (most ≡ capacityOf (now journal)) ⌝ }
+    ensures { λ r. ⌜ advancedTo r (now (regs .exit)) (now (cells .exit)) (now (journal .exit))
         ≡ stepOf (stateWith (now (regs .entry)) s depth (now (cells .entry)) (now (journal .entry))) ⌝ }
 {
     let pc = regs[255];
@@ -81,22 +87,40 @@ pub(crate) fn advance(
     if cells.len() <= at {
         return refused(s, depth, Stop::Fetch);
     }
-    if capacity(journal) <= depth {
+    if most <= depth {
         return refused(s, depth, Stop::Full);
     }
     let considered = consider(cells[at], regs, cells, s);
     match considered {
         Considered::Float => refused(s, depth, Stop::Float),
         Considered::Fault => refused(s, depth, Stop::Fault),
-        Considered::Does(effect) => {
-            let settings = carry_out(regs, s, depth, cells, journal, effect);
-            let after = regs[255];
-            let verdict = verdict_of(after, effect);
-            Advanced {
-                settings,
-                depth: depth + 1,
-                verdict,
-            }
+        Considered::Still { pc, raised, flags } => {
+            moves(regs, s, depth, journal, pc, raised, flags)
         }
+        Considered::Writes {
+            value,
+            raised,
+            flags,
+            n,
+            pc,
+        } => { writes(regs, s, depth, journal, value, raised, flags, n, pc) }
+        Considered::Stores { value, address, pc } => {
+            stores(regs, s, depth, cells, journal, value, address, pc)
+        }
+        Considered::Splits {
+            first,
+            second,
+            pc,
+            a,
+            b,
+        } => { splits(regs, s, depth, journal, first, second, pc, a, b) }
+        Considered::Swaps {
+            first,
+            second,
+            pc,
+            a,
+            b,
+        } => { swaps(regs, s, depth, journal, first, second, pc, a, b) }
+        Considered::Does(effect) => does(regs, s, depth, cells, journal, effect),
     }
 }

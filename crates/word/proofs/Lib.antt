@@ -1,3 +1,4 @@
 pub mod Product
 pub mod Integers
 pub mod Bounds
+pub mod Asking

@@ -1,8 +1,7 @@
 // What an operation does with two 32-bit operand values: the value that it writes, the flags that it governs, and those of them
-// that it writes as 1. Both operand forms go through `operate`.
+// that it writes as 1. Both operand forms go through `operate`, by one match on the opcode.
 ghost use mathlib.Core.Path.{_≡_};
-ghost use Prim.Native.Nat.{_≤_};
-ghost use Rattle.word.specs.Word.{seOf, exOf, opOf, askedOf, writtenOf};
+ghost use Rattle.word.specs.Word.{seOf, exOf, askedOf, operatedBy};
 
 mod arithmetic;
 mod compare;
@@ -69,29 +68,6 @@ pub enum Op {
     Eq,
 }
 
-// The operations in the order of their opcodes, from 16 on.
-const OPERATIONS: [Op; 19] = [
-    Op::Add,
-    Op::Adc,
-    Op::Sub,
-    Op::Sbb,
-    Op::Mul,
-    Op::Udiv,
-    Op::Sdiv,
-    Op::Mod,
-    Op::And,
-    Op::Or,
-    Op::Xor,
-    Op::Nand,
-    Op::Lnand,
-    Op::Lsh,
-    Op::Ursh,
-    Op::Srsh,
-    Op::Ugt,
-    Op::Sgt,
-    Op::Eq,
-];
-
 // How an opcode asks for an operation: on its operands as they come, on its operands turned, or not at all.
 pub enum Asked {
     Given(Op),
@@ -106,15 +82,17 @@ pub struct Written {
     pub raised: u32,
 }
 
-// The 16-bit value sign-extended.
+// What an opcode's operation does: it writes, or there is none.
+pub enum Operated {
+    Wrote(Written),
+    Nothing,
+}
+
+// The 16-bit value sign-extended, in a form that becomes one instruction.
 pub fn se(x: u16) -> u32
     ensures { λ r. ⌜ r ≡ seOf x ⌝ }
 {
-    if x < 32768 {
-        x as u32
-    } else {
-        4294901760 + (x as u32)
-    }
+    std::num::wrapping_sub_u32((x as u32 + 32768) % 65536, 32768)
 }
 
 // A half float's fields in their places: the sign, the exponent sign-extended, the fraction above 13 zeros.
@@ -143,51 +121,32 @@ fn plain(value: u32) -> Written
     }
 }
 
-// The operation of an opcode from 16 to 34.
-fn op_of(opcode: u8) -> Op
-    requires { ⌜ (16 ≤ opcode) × (opcode ≤ 34) ⌝ }
-    ensures { λ r. ⌜ r ≡ opOf opcode ⌝ }
-{
-    OPERATIONS[(opcode - 16) as usize]
-}
-
-// What an opcode asks for.
-pub fn operation(opcode: u8) -> Asked
-    ensures { λ r. ⌜ r ≡ askedOf opcode ⌝ }
+// What the operation of an opcode writes, from its operands m and l, the old Rn and the flags. 52 and 53 turn their operands.
+pub fn operate(opcode: u8, m: u32, l: u32, n: u32, flags: u32) -> Operated
+    ensures { λ r. ⌜ r ≡ operatedBy (askedOf opcode) m l n flags ⌝ }
 {
     match opcode {
-        16..=34 => Asked::Given(op_of(opcode)),
-        35..=45 => Asked::Given(op_of(opcode - 19)),
-        46..=51 => Asked::Given(op_of(opcode - 17)),
-        52 => Asked::Turned(Op::Ugt),
-        53 => Asked::Turned(Op::Sgt),
-        _ => Asked::Other,
-    }
-}
-
-// What an operation writes, from its operands m and l, the old Rn and the flags.
-pub fn operate(op: Op, m: u32, l: u32, n: u32, flags: u32) -> Written
-    ensures { λ r. ⌜ r ≡ writtenOf op m l n flags ⌝ }
-{
-    match op {
-        Op::Add => sum(m, l, 0),
-        Op::Adc => sum(m, l, flags % 2),
-        Op::Sub => difference(m, l, 0),
-        Op::Sbb => difference(m, l, flags / 2 % 2),
-        Op::Mul => product(m, l),
-        Op::Udiv => unsigned_quotient(m, l, n),
-        Op::Sdiv => signed_quotient(m, l, n),
-        Op::Mod => remainder(m, l, n),
-        Op::And => plain(m & l),
-        Op::Or => plain(m | l),
-        Op::Xor => plain(m ^ l),
-        Op::Nand => plain(!(m & l)),
-        Op::Lnand => plain(either_zero(m, l)),
-        Op::Lsh => left(m, l),
-        Op::Ursh => right(m, l),
-        Op::Srsh => signed_right(m, l),
-        Op::Ugt => plain(greater(m, l)),
-        Op::Sgt => plain(signed_greater(m, l)),
-        Op::Eq => plain(equal(m, l)),
+        16 | 35 => Operated::Wrote(sum(m, l, 0)),
+        17 | 36 => Operated::Wrote(sum(m, l, flags % 2)),
+        18 | 37 => Operated::Wrote(difference(m, l, 0)),
+        19 | 38 => Operated::Wrote(difference(m, l, flags / 2 % 2)),
+        20 | 39 => Operated::Wrote(product(m, l)),
+        21 | 40 => Operated::Wrote(unsigned_quotient(m, l, n)),
+        22 | 41 => Operated::Wrote(signed_quotient(m, l, n)),
+        23 | 42 => Operated::Wrote(remainder(m, l, n)),
+        24 | 43 => Operated::Wrote(plain(m & l)),
+        25 | 44 => Operated::Wrote(plain(m | l)),
+        26 | 45 => Operated::Wrote(plain(m ^ l)),
+        27 => Operated::Wrote(plain(!(m & l))),
+        28 => Operated::Wrote(plain(either_zero(m, l))),
+        29 | 46 => Operated::Wrote(left(m, l)),
+        30 | 47 => Operated::Wrote(right(m, l)),
+        31 | 48 => Operated::Wrote(signed_right(m, l)),
+        32 | 49 => Operated::Wrote(plain(greater(m, l))),
+        33 | 50 => Operated::Wrote(plain(signed_greater(m, l))),
+        34 | 51 => Operated::Wrote(plain(equal(m, l))),
+        52 => Operated::Wrote(plain(greater(l, m))),
+        53 => Operated::Wrote(plain(signed_greater(l, m))),
+        _ => Operated::Nothing,
     }
 }

@@ -1,33 +1,9 @@
--- `effect::execute::consider` meets its contract: what the cell was decoded into is known in each arm.
--- Assumes nothing.
-use mathlib.Core.Path.{_≡_, _∙_}
-use mathlib.Core.List.{List, []}
-use Prim.Native.Nat.{ℕ}
+-- `effect::execute::consider` meets its contract: the opcode is known in each arm, and in the last that it is none of these.
+use borrow.Author.Tests.{ne-eqb}
+use Rattle.effect.proofs.Opcodes.{swaps, transfers, lower, upper, plain, extended, expanded, splits, float-splits, branches, interrupts, remaining}
 use borrow.Author.Needs.{needs}
-use Rattle.cell.specs.declared.Instruction.{Instruction}
-use Rattle.cell.specs.declared.Instruction.the-variants.{Immediate, Reserved}
-use Rattle.cell.specs.Cell.{decodeOf}
-use Rattle.effect.specs.declared.Settings.{Settings}
-use Rattle.effect.specs.declared.execute.Considered.the-variants.{Does}
-use Rattle.effect.specs.Operands.{nextOf}
-use Rattle.effect.specs.Effect.{illegalOf, effectOf, behindOf}
-use Rattle.effect.specs.Refusal.{refusedBy}
-use Rattle.effect.specs.Inner.{consideredOf}
 use Rattle.effect.proofs.execute.consider.Statement.{statement}
 use Rattle.effect.proofs.execute.consider.Tie as tie
-
--- what a cell was decoded into is what it is read as
-module _ (regs : List ℕ) (s : Settings) (cells : List ℕ) (c : ℕ) (i : Instruction) (is : i ≡ decodeOf c) where
-  read-as : (j : Instruction) → i ≡ j → consideredOf j regs s cells ≡ consideredOf (decodeOf c) regs s cells
-  read-as j e = rw (← is, e)
-
-  no-cells : (x n imm : ℕ) → i ≡ Immediate x n imm → consideredOf (Immediate x n imm) regs s [] ≡ consideredOf (decodeOf c) regs s cells
-  unfolding consideredOf refusedBy behindOf
-  no-cells x n imm e = rw (← is, e)
-
-  reserved : (d : ℕ) → i ≡ Reserved d → Does (illegalOf (nextOf regs) s) ≡ consideredOf (decodeOf c) regs s cells
-  unfolding consideredOf refusedBy effectOf
-  reserved d e = rw (← is, e)
 
 element-copy-out-wrapping-add-u32 : tie.Need-element-copy-out-wrapping-add-u32
 element-copy-out-wrapping-add-u32 c = search needs
@@ -35,35 +11,144 @@ element-copy-out-wrapping-add-u32 c = search needs
 wrapping-add-u32-requires : tie.Need-wrapping-add-u32-requires
 wrapping-add-u32-requires c κs = search needs
 
-decode-requires : tie.Need-decode-requires
-decode-requires c κs = search needs
+cast-opcode : tie.Need-cast-opcode
+cast-opcode c = search needs
 
-enum-known-instruction : tie.Need-enum-known-instruction
-enum-known-instruction c = search needs
+cast-n : tie.Need-cast-n
+cast-n c = search needs
 
-consider-registers-requires : tie.Need-consider-registers-requires
-consider-registers-requires c κs = search needs
+cast-m : tie.Need-cast-m
+cast-m c = search needs
 
-enum-known-instruction-2 : tie.Need-enum-known-instruction-2
-enum-known-instruction-2 c = search needs
+cast-l : tie.Need-cast-l
+cast-l c = search needs
 
-consider-immediate-requires : tie.Need-consider-immediate-requires
-consider-immediate-requires c κs = search needs
+cast-imm : tie.Need-cast-imm
+cast-imm c = search needs
 
-enum-told : tie.Need-enum-told
-enum-told c = search needs
+operand-requires : tie.Need-operand-requires
+operand-requires c κs = search needs
 
-illegal-requires : tie.Need-illegal-requires
-illegal-requires c κs = search needs
+first-requires : tie.Need-first-requires
+first-requires c κs = search needs
+
+second-requires : tie.Need-second-requires
+second-requires c κs = search needs
+
+transfer-requires : tie.Need-transfer-requires
+transfer-requires c κs = search needs
+
+mul-writes : tie.Need-mul-writes
+mul-writes c = search needs
+
+cast-writes : tie.Need-cast-writes
+cast-writes c = search needs
+
+add-writes : tie.Need-add-writes
+add-writes c = search needs
+
+writes-requires : tie.Need-writes-requires
+writes-requires c κs = search needs
+
+cast-writes-2 : tie.Need-cast-writes-2
+cast-writes-2 c = search needs
+
+mul-writes-2 : tie.Need-mul-writes-2
+mul-writes-2 c = search needs
+
+add-writes-2 : tie.Need-add-writes-2
+add-writes-2 c = search needs
+
+writes-requires-2 : tie.Need-writes-requires-2
+writes-requires-2 c κs = search needs
+
+cast-writes-3 : tie.Need-cast-writes-3
+cast-writes-3 c = search needs
+
+writes-requires-3 : tie.Need-writes-requires-3
+writes-requires-3 c κs = search needs
+
+se-requires : tie.Need-se-requires
+se-requires c κs = search needs
+
+writes-requires-4 : tie.Need-writes-requires-4
+writes-requires-4 c κs = search needs
+
+ex-requires : tie.Need-ex-requires
+ex-requires c κs = search needs
+
+writes-requires-5 : tie.Need-writes-requires-5
+writes-requires-5 c κs = search needs
+
+cast-se : tie.Need-cast-se
+cast-se c = search needs
+
+se-requires-2 : tie.Need-se-requires-2
+se-requires-2 c κs = search needs
+
+cast-se-2 : tie.Need-cast-se-2
+cast-se-2 c = search needs
+
+se-requires-3 : tie.Need-se-requires-3
+se-requires-3 c κs = search needs
+
+cast-ex : tie.Need-cast-ex
+cast-ex c = search needs
+
+ex-requires-2 : tie.Need-ex-requires-2
+ex-requires-2 c κs = search needs
+
+cast-ex-2 : tie.Need-cast-ex-2
+cast-ex-2 c = search needs
+
+ex-requires-3 : tie.Need-ex-requires-3
+ex-requires-3 c κs = search needs
+
+branch-requires : tie.Need-branch-requires
+branch-requires c κs = search needs
+
+int-requires : tie.Need-int-requires
+int-requires c κs = search needs
+
+operated-requires : tie.Need-operated-requires
+operated-requires c κs = search needs
 
 returns : tie.Need-returns
-returns c = c .consider-registers .ensures ∙ read-as _ _ _ _ _ (c .before .before .before .before .decode .ensures) _ (search needs)
+returns c = rw (c .before .before .first .ensures, c .match .keys1, c .before .before .before .operand .ensures, c .before .before .before .before .wrapping-add-u32 .ensures) (swaps _ _ _ _ (c .match .keys1))
 
 returns-2 : tie.Need-returns-2
-returns-2 c = c .consider-immediate .ensures ∙ no-cells _ _ _ _ _ (c .before .before .before .before .decode .ensures) _ _ _ (search needs)
+returns-2 c = rw (c .transfer .ensures, c .before .before .before .first .ensures, c .before .before .second .ensures, c .before .match .keys2, c .before .before .before .before .operand .ensures, c .before .before .before .before .before .wrapping-add-u32 .ensures) (transfers _ _ _ _ (c .before .match .keys2))
 
 returns-3 : tie.Need-returns-3
-returns-3 c = rw (c .illegal .ensures, c .before .before .before .before .wrapping-add-u32 .ensures) (reserved _ _ _ _ _ (c .before .before .before .decode .ensures) _ (c .before .enum-told .given .1))
+returns-3 c = rw (c .writes .ensures, c .before .before .before .before .operand .ensures, c .before .before .before .before .before .wrapping-add-u32 .ensures) (lower _ _ _ _ (c .before .match .keys3))
+
+returns-4 : tie.Need-returns-4
+returns-4 c = rw (c .writes2 .ensures, c .before .before .before .before .operand .ensures, c .before .before .before .before .before .wrapping-add-u32 .ensures) (upper _ _ _ _ (c .before .match .keys4))
+
+returns-5 : tie.Need-returns-5
+returns-5 c = rw (c .writes3 .ensures, c .before .before .before .before .before .wrapping-add-u32 .ensures) (plain _ _ _ _ (c .before .match .keys5))
+
+returns-6 : tie.Need-returns-6
+returns-6 c = rw (c .writes4 .ensures, c .before .se .ensures, c .before .before .before .before .before .before .wrapping-add-u32 .ensures) (extended _ _ _ _ (c .before .before .match .keys6))
+
+returns-7 : tie.Need-returns-7
+returns-7 c = rw (c .writes5 .ensures, c .before .ex .ensures, c .before .before .before .before .before .before .wrapping-add-u32 .ensures) (expanded _ _ _ _ (c .before .before .match .keys7))
+
+returns-8 : tie.Need-returns-8
+returns-8 c = rw (c .before .se2 .ensures, c .se3 .ensures, c .before .before .before .before .before .operand .ensures, c .before .before .before .before .before .before .wrapping-add-u32 .ensures) (splits _ _ _ _ (c .before .before .match .keys8))
+
+returns-9 : tie.Need-returns-9
+returns-9 c = rw (c .before .ex2 .ensures, c .ex3 .ensures, c .before .before .before .before .before .operand .ensures, c .before .before .before .before .before .before .wrapping-add-u32 .ensures) (float-splits _ _ _ _ (c .before .before .match .keys9))
+
+returns-10 : tie.Need-returns-10
+returns-10 c = rw (c .branch .ensures, c .before .before .before .before .operand .ensures, c .before .before .before .before .before .wrapping-add-u32 .ensures) (branches _ _ _ _ (c .before .match .keys10))
+
+returns-11 : tie.Need-returns-11
+returns-11 c = rw (c .int .ensures, c .before .before .before .before .operand .ensures, c .before .before .before .before .before .wrapping-add-u32 .ensures) (interrupts _ _ _ _ (c .before .match .keys11))
+
+returns-12 : tie.Need-returns-12
+returns-12 c = let rest = c .before .match .rest in
+    rw (c .operated .ensures, c .before .before .before .first .ensures, c .before .before .second .ensures, c .before .before .before .before .operand .ensures, c .before .before .before .before .before .wrapping-add-u32 .ensures) (remaining _ _ _ _ (search needs) (ne-eqb _ _ (rest .0 .0 .0 .0 .0 .0 .0 .0 .0 .0 .1)) (ne-eqb _ _ (rest .0 .0 .0 .0 .0 .0 .0 .0 .0 .1)) (ne-eqb _ _ (rest .0 .0 .0 .0 .0 .0 .0 .0 .1)) (ne-eqb _ _ (rest .0 .0 .0 .0 .0 .0 .0 .1)) (ne-eqb _ _ (rest .0 .0 .0 .0 .0 .0 .1)) (ne-eqb _ _ (rest .0 .0 .0 .0 .0 .1)) (ne-eqb _ _ (rest .0 .0 .0 .0 .1)) (ne-eqb _ _ (rest .0 .0 .0 .1)) (ne-eqb _ _ (rest .0 .0 .1)) (ne-eqb _ _ (rest .0 .1)) (ne-eqb _ _ (rest .1)))
 
 pub consider-spec : {M : Type 1} → statement M
 consider-spec =
@@ -71,13 +156,49 @@ consider-spec =
     (tie.spec
     element-copy-out-wrapping-add-u32
     wrapping-add-u32-requires
-    decode-requires
-    enum-known-instruction
-    consider-registers-requires
-    enum-known-instruction-2
-    consider-immediate-requires
-    enum-told
-    illegal-requires
+    cast-opcode
+    cast-n
+    cast-m
+    cast-l
+    cast-imm
+    operand-requires
+    first-requires
+    second-requires
+    transfer-requires
+    mul-writes
+    cast-writes
+    add-writes
+    writes-requires
+    cast-writes-2
+    mul-writes-2
+    add-writes-2
+    writes-requires-2
+    cast-writes-3
+    writes-requires-3
+    se-requires
+    writes-requires-4
+    ex-requires
+    writes-requires-5
+    cast-se
+    se-requires-2
+    cast-se-2
+    se-requires-3
+    cast-ex
+    ex-requires-2
+    cast-ex-2
+    ex-requires-3
+    branch-requires
+    int-requires
+    operated-requires
     returns
     returns-2
-    returns-3)
+    returns-3
+    returns-4
+    returns-5
+    returns-6
+    returns-7
+    returns-8
+    returns-9
+    returns-10
+    returns-11
+    returns-12)

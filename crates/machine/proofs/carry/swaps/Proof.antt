@@ -1,0 +1,85 @@
+-- `machine::carry::swaps` meets its contract: the entry and the writes are the definition's.
+use Rattle.machine.specs.Journal.{regsAfter, settingsAfter, cellsAfter, entryOf}
+use Rattle.machine.specs.Calls.{courseOf}
+use Rattle.machine.proofs.Steps.{room, few}
+use borrow.Author.Needs.{needs}
+use Rattle.machine.proofs.carry.swaps.Statement.{statement}
+use Rattle.machine.proofs.carry.swaps.Tie as tie
+
+element-copy-out-after : tie.Need-element-copy-out-after
+element-copy-out-after c = search needs
+
+packed-requires : tie.Need-packed-requires
+packed-requires c κs = search needs
+
+mul-t22 : tie.Need-mul-t22
+mul-t22 c = search needs
+
+add-t23 : tie.Need-add-t23
+add-t23 c = search needs
+
+mul-t24 : tie.Need-mul-t24
+mul-t24 c = search needs
+
+element-copy-out-t27 : tie.Need-element-copy-out-t27
+element-copy-out-t27 c = search needs
+
+mul-t28 : tie.Need-mul-t28
+mul-t28 c = search needs
+
+element-copy-out-t31 : tie.Need-element-copy-out-t31
+element-copy-out-t31 c = search needs
+
+enter-requires : tie.Need-enter-requires
+enter-requires c κs = room _ _ (c .before .before .before .before .before .before .pre .1)
+
+element-write-regs : tie.Need-element-write-regs
+element-write-regs c = search needs
+
+mul-regs : tie.Need-mul-regs
+mul-regs c = search needs
+
+element-write-regs-2 : tie.Need-element-write-regs-2
+element-write-regs-2 c = search needs
+
+mul-regs-2 : tie.Need-mul-regs-2
+mul-regs-2 c = search needs
+
+element-write-regs-3 : tie.Need-element-write-regs-3
+element-write-regs-3 c = search needs
+
+element-copy-out-after-2 : tie.Need-element-copy-out-after-2
+element-copy-out-after-2 c = search needs
+
+left-at-requires : tie.Need-left-at-requires
+left-at-requires c κs = few _ _ (c .before .before .before .before .before .before .before .before .before .before .pre .1)
+
+same-length : tie.Need-same-length
+same-length c = search needs
+
+returns : tie.Need-returns
+unfolding regsAfter settingsAfter cellsAfter entryOf courseOf
+returns c = λ cells. rw (c .left-at .ensures .0, c .left-at .ensures .1 .0, c .left-at .ensures .1 .1, c .before .before .before .before .enter .ensures, c .before .before .before .before .before .before .before .packed .ensures)
+
+pub swaps-spec : {M : Type 1} → statement M
+swaps-spec =
+    tie.close
+    (tie.spec
+    element-copy-out-after
+    packed-requires
+    mul-t22
+    add-t23
+    mul-t24
+    element-copy-out-t27
+    mul-t28
+    element-copy-out-t31
+    enter-requires
+    element-write-regs
+    mul-regs
+    element-write-regs-2
+    mul-regs-2
+    element-write-regs-3
+    element-copy-out-after-2
+    left-at-requires
+    same-length
+    returns)
