@@ -120,13 +120,13 @@ pub(crate) fn take_back(
     if is_damaged(cells.len(), w) {
         return Returned::Damaged;
     }
-    restore_regs(regs, w);
     let store = Store {
         used: uses_store(w[7]),
         address: w[5],
         value: w[6],
     };
     keep(cells, store);
+    restore_regs(regs, w);
     Returned::Back(Settings {
         flags: w[1] % Settings::FLAGS_BOUND,
         mask: w[1] / Settings::FLAGS_BOUND % Settings::FLAGS_BOUND,

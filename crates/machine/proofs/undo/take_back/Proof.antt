@@ -1,11 +1,10 @@
 -- `machine::undo::take_back` meets its contract: the tests pick the case; an entry that is not damaged names a cell.
--- Assumes nothing.
 use mathlib.Core.Path.{sym, _∙_}
 use borrow.Author.Tests.{eq-eqb, ne-eqb}
-use borrow.Author.Needs.{needs}
 use Rattle.machine.specs.Journal.{cellsBefore, settingsBefore}
 use Rattle.machine.specs.Inner.{takenBack}
 use Rattle.machine.proofs.Damage.{packed, addressed}
+use borrow.Author.Needs.{needs}
 use Rattle.machine.proofs.undo.take_back.Statement.{statement}
 use Rattle.machine.proofs.undo.take_back.Tie as tie
 
@@ -23,29 +22,29 @@ returns-2 : tie.Need-returns-2
 unfolding takenBack
 returns-2 c = rw (ne-eqb _ _ (c .before .before .before .if1 .left), ← c .before .before .last .ensures, ← c .before .is-damaged .ensures, c .if2 .taken)
 
-restore-regs-requires : tie.Need-restore-regs-requires
-restore-regs-requires c κs = packed _ _ (sym (c .before .before .is-damaged .ensures) ∙ c .before .if2 .left)
-
 array-read-uses-store : tie.Need-array-read-uses-store
 array-read-uses-store c = search needs
 
 uses-store-requires : tie.Need-uses-store-requires
 uses-store-requires c κs = search needs
 
-array-read-t19 : tie.Need-array-read-t19
-array-read-t19 c = search needs
+array-read-t17 : tie.Need-array-read-t17
+array-read-t17 c = search needs
 
-array-read-t22 : tie.Need-array-read-t22
-array-read-t22 c = search needs
+array-read-t20 : tie.Need-array-read-t20
+array-read-t20 c = search needs
 
 keep-requires : tie.Need-keep-requires
-keep-requires c κs = λ h. addressed _ _ (sym (c .before .before .before .before .before .is-damaged .ensures) ∙ c .before .before .before .before .if2 .left) (sym (c .before .uses-store .ensures) ∙ h)
+keep-requires c κs = λ h. addressed _ _ (sym (c .before .before .before .is-damaged .ensures) ∙ c .before .before .if2 .left) (sym (c .before .uses-store .ensures) ∙ h)
 
-array-read-t22-2 : tie.Need-array-read-t22-2
-array-read-t22-2 c = search needs
+restore-regs-requires : tie.Need-restore-regs-requires
+restore-regs-requires c κs = packed _ _ (sym (c .before .before .before .before .before .before .before .is-damaged .ensures) ∙ c .before .before .before .before .before .before .if2 .left)
 
-array-read-t19-2 : tie.Need-array-read-t19-2
-array-read-t19-2 c = search needs
+array-read-t20-2 : tie.Need-array-read-t20-2
+array-read-t20-2 c = search needs
+
+array-read-t17-2 : tie.Need-array-read-t17-2
+array-read-t17-2 c = search needs
 
 array-read-t33 : tie.Need-array-read-t33
 array-read-t33 c = search needs
@@ -55,7 +54,7 @@ same-length c = search needs
 
 returns-3 : tie.Need-returns-3
 unfolding takenBack cellsBefore settingsBefore
-returns-3 c = rw (ne-eqb _ _ (c .before .before .before .before .before .before .before .before .before .before .if1 .left), ← c .before .before .before .before .before .before .before .before .before .last .ensures, ← c .before .before .before .before .before .before .before .before .is-damaged .ensures, c .before .before .before .before .before .before .before .if2 .left, c .before .before .before .before .before .restore-regs .ensures, c .before .before .keep .ensures, c .before .before .before .before .uses-store .ensures)
+returns-3 c = rw (ne-eqb _ _ (c .before .before .before .before .before .before .before .before .before .before .if1 .left), ← c .before .before .before .before .before .before .before .before .before .last .ensures, ← c .before .before .before .before .before .before .before .before .is-damaged .ensures, c .before .before .before .before .before .before .before .if2 .left, c .restore-regs .ensures, c .before .before .before .before .keep .ensures, c .before .before .before .before .before .before .uses-store .ensures)
 
 pub take-back-spec : {M : Type 1} → statement M
 take-back-spec =
@@ -65,14 +64,14 @@ take-back-spec =
     last-requires
     is-damaged-requires
     returns-2
-    restore-regs-requires
     array-read-uses-store
     uses-store-requires
-    array-read-t19
-    array-read-t22
+    array-read-t17
+    array-read-t20
     keep-requires
-    array-read-t22-2
-    array-read-t19-2
+    restore-regs-requires
+    array-read-t20-2
+    array-read-t17-2
     array-read-t33
     same-length
     returns-3)
