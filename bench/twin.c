@@ -347,9 +347,9 @@ static uint32_t cells[MOST_CELLS], journal[8 * MOST_ENTRIES];
 int main(int argc, char **argv)
 {
     static struct machine m;
-    uint32_t rounds = argc > 1 ? strtoul(argv[1], 0, 10) : 0;
-    size_t size = argc > 2 ? strtoul(argv[2], 0, 10) : 0;
-    uint64_t number = argc > 3 ? strtoul(argv[3], 0, 10) : 0;
+    uint32_t rounds = argc > 1 ? strtoul(argv[1], 0, 10) : 1;
+    size_t size = argc > 2 ? strtoul(argv[2], 0, 10) : MOST_CELLS;
+    uint64_t number = argc > 3 ? strtoul(argv[3], 0, 10) : MOST_ENTRIES;
     if (size > MOST_CELLS)
         size = MOST_CELLS;
     size_t bytes = fread(job, 1, sizeof job, stdin);

@@ -1,5 +1,6 @@
-// What a step costs is measured with this program: `bench ROUNDS CELLS BACK < JOB`. It loads the job into as many cells as asked,
-// goes as many rounds as asked, each a run forward of budget 65,536 and so many steps back, and writes one line of what came of it.
+// What a step costs is measured with this program: `bench ROUNDS [CELLS [BACK]] < JOB`. It loads the job into 16,384 cells or as many as
+// asked, goes as many rounds as asked, each a run forward of budget 65,536 and 65,536 steps back or as many as asked, and writes one line
+// of what came of it.
 ghost use Prim.Native.Nat.{_≤_};
 ghost use Rattle.io.specs.Counts.{Counts};
 
@@ -26,10 +27,13 @@ fn wide(b: u8) -> u32 {
     b as u32
 }
 
-// An argument as a number; 0 if it is missing.
-fn argument(i: usize) -> u32 {
+// An argument as a number, or another number if it is missing.
+fn argument(i: usize, otherwise: u32) -> u32 {
     let mut word = [0u8; 16];
     let n = os::arg(i, &mut word);
+    if n == 0 {
+        return otherwise;
+    }
     number(&word[..n])
 }
 
@@ -48,7 +52,7 @@ fn write(name: &[u8], n: u64) {
 
 // Writes the line.
 fn report(t: Tally) {
-    write(b"stop ", t.stop as u64);
+    write(b"stop ", t.stop);
     write(b" forward ", t.forward);
     write(b" back ", t.back);
     write(b" sum ", t.sum as u64);
@@ -97,8 +101,8 @@ fn main() {
     let mut room = [0u8; 131072];
     let mut cells = [0u32; 16384];
     let mut journal = [0u32; 524288];
-    let times = argument(1);
-    let size = argument(2) as usize;
-    let number = argument(3) as u64;
+    let times = argument(1, 1);
+    let size = argument(2, 16384) as usize;
+    let number = argument(3, 65536) as u64;
     measure_all(&mut room, &mut cells, &mut journal, size, times, number);
 }

@@ -1,42 +1,19 @@
 // Rounds of a run forward and a run back, and what is told of them.
 ghost use mathlib.Core.Path.{_≡_};
 ghost use Rattle.machine.specs.State.{stateOf};
-ghost use Rattle.machine.specs.Calls.{saidOf};
 ghost use Rattle.bench.specs.Rounds.{sumFrom, noneYet, addedUp, talliedFrom};
 use machine::Machine;
 use machine::Ran;
-use machine::Stop;
 
 // How far a round goes forward.
 const BUDGET: u64 = 65536;
 
 // What is told: the last stop forward, the steps forward and back of all rounds, and the sum of the registers.
 pub(crate) struct Tally {
-    pub stop: u8,
+    pub stop: u64,
     pub forward: u64,
     pub back: u64,
     pub sum: u32,
-}
-
-// A stop's number.
-fn number_of(stop: Stop) -> u8
-    ensures { λ r. ⌜ r ≡ saidOf stop .number ⌝ }
-{
-    match stop {
-        Stop::Done => 0,
-        Stop::Ended => 1,
-        Stop::Trap => 2,
-        Stop::Int { value: _, imm: _ } => 3,
-        Stop::Fetch => 4,
-        Stop::Fault => 5,
-        Stop::Float => 6,
-        Stop::Full => 7,
-        Stop::Start => 8,
-        Stop::Damaged => 9,
-        Stop::Unsettled => 10,
-        Stop::Deep => 11,
-        Stop::Cells => 12,
-    }
 }
 
 // The sum x after the registers: X*31 + register, modulo 2^32, over them in order.
@@ -60,7 +37,7 @@ fn add_up(told: Tally, ran: Ran, back: u64) -> Tally
     let regs = m.regs;
     let stop = ran.stop;
     Tally {
-        stop: number_of(stop),
+        stop: stop.number(),
         forward: std::num::wrapping_add_u64(told.forward, ran.count),
         back: std::num::wrapping_add_u64(told.back, back),
         sum: sum(told.sum, &regs),

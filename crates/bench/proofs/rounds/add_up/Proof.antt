@@ -3,8 +3,8 @@ use borrow.Author.Needs.{needs}
 use Rattle.bench.proofs.rounds.add_up.Statement.{statement}
 use Rattle.bench.proofs.rounds.add_up.Tie as tie
 
-number-of-requires : tie.Need-number-of-requires
-number-of-requires c κs = search needs
+number-requires : tie.Need-number-requires
+number-requires c κs = search needs
 
 wrapping-add-u64-requires : tie.Need-wrapping-add-u64-requires
 wrapping-add-u64-requires c κs = search needs
@@ -19,13 +19,13 @@ sum-requires : tie.Need-sum-requires
 sum-requires c κs = search needs
 
 returns : tie.Need-returns
-returns c = rw (c .before .before .before .before .number-of .ensures, c .before .before .before .wrapping-add-u64 .ensures, c .before .before .wrapping-add-u642 .ensures, c .sum .ensures)
+returns c = rw (c .before .before .before .before .number .ensures, c .before .before .before .wrapping-add-u64 .ensures, c .before .before .wrapping-add-u642 .ensures, c .sum .ensures)
 
 pub add-up-spec : {M : Type 1} → statement M
 add-up-spec =
     tie.close
     (tie.spec
-    number-of-requires
+    number-requires
     wrapping-add-u64-requires
     wrapping-add-u64-requires-2
     slice-aggregate-sum
