@@ -5,10 +5,8 @@
 use Prim.Native.Nat.{ℕ}
 use mathlib.Core.Path.{_≡_, sym, _∙_}
 use mathlib.Core.List.{List}
-use Rattle.word.specs.declared.Op.{Op}
-use Rattle.word.specs.declared.Asked.{Asked}
-use Rattle.word.specs.declared.Written.{Written}
-use Rattle.word.specs.Word.{seOf, exOf, askedOf, writtenOf}
+use Rattle.word.specs.declared.Operated.{Operated}
+use Rattle.word.specs.Word.{seOf, exOf, askedOf, operatedBy}
 use Rattle.cell.specs.declared.Form.{Form}
 use Rattle.cell.specs.declared.Instruction.{Instruction}
 use Rattle.cell.specs.declared.Operands.{Operands}
@@ -17,7 +15,7 @@ use Rattle.cell.specs.Cell as cell
 use Rattle.cell.proofs.RoundTrip as cells
 use Rattle.effect.specs.declared.Settings.{Settings}
 use Rattle.effect.specs.declared.execute.Considered.{Considered}
-use Rattle.effect.specs.Inner.{consideredOf}
+use Rattle.effect.specs.Inner.{atLength, consideredOf}
 use Rattle.machine.specs.declared.Machine.{Machine}
 use Rattle.machine.specs.declared.Ran.{Ran}
 use Rattle.machine.specs.State.{freshMachine, stateOf}
@@ -34,11 +32,8 @@ se-once x r t = unique
 pub ex-once : (x r t : ℕ) → r ≡ exOf x → t ≡ exOf x → r ≡ t
 ex-once x r t = unique
 
-pub operation-once : (opcode : ℕ) (r t : Asked) → r ≡ askedOf opcode → t ≡ askedOf opcode → r ≡ t
-operation-once opcode r t = unique
-
-pub operate-once : (op : Op) (m l n flags : ℕ) (r t : Written) → r ≡ writtenOf op m l n flags → t ≡ writtenOf op m l n flags → r ≡ t
-operate-once op m l n flags r t = unique
+pub operate-once : (opcode m l n flags : ℕ) (r t : Operated) → r ≡ operatedBy (askedOf opcode) m l n flags → t ≡ operatedBy (askedOf opcode) m l n flags → r ≡ t
+operate-once opcode m l n flags r t = unique
 
 pub form-once : (opcode : ℕ) (r t : Form) → r ≡ cell.formOf opcode → t ≡ cell.formOf opcode → r ≡ t
 form-once opcode r t = unique
@@ -49,8 +44,9 @@ decode-once c r t = unique
 pub encode-once : (opcode : ℕ) (o : Operands) (r t : Encoded) → cell.saidOf r ≡ cell.encodeOf opcode o → cell.saidOf t ≡ cell.encodeOf opcode o → r ≡ t
 encode-once opcode o r t p q = cells.said-once r t (unique p q)
 
+-- the stop or the effect, whether it is said in short or at length
 pub consider-once : (c : ℕ) (regs cells : List ℕ) (s : Settings) (r t : Considered)
-    → r ≡ consideredOf (cell.decodeOf c) regs s cells → t ≡ consideredOf (cell.decodeOf c) regs s cells → r ≡ t
+    → atLength s r ≡ consideredOf (cell.decodeOf c) regs s cells → atLength s t ≡ consideredOf (cell.decodeOf c) regs s cells → atLength s r ≡ atLength s t
 consider-once c regs cells s r t = unique
 
 pub fresh-once : (r t : Machine) → r ≡ freshMachine → t ≡ freshMachine → r ≡ t
