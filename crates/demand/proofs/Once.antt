@@ -6,10 +6,8 @@ use Prim.Native.Nat.{ℕ}
 use mathlib.Core.Path.{_≡_, refl, sym, ap, _∙_}
 use mathlib.Core.Option.{Option, none, some}
 use mathlib.Core.List.{List}
-use Rattle.word.specs.declared.Op.{Op}
-use Rattle.word.specs.declared.Asked.{Asked}
-use Rattle.word.specs.declared.Written.{Written}
-use Rattle.word.specs.Word.{seOf, exOf, askedOf, writtenOf}
+use Rattle.word.specs.declared.Operated.{Operated}
+use Rattle.word.specs.Word.{seOf, exOf, askedOf, operatedBy}
 use Rattle.cell.specs.declared.Form.{Form}
 use Rattle.cell.specs.declared.Instruction.{Instruction}
 use Rattle.cell.specs.declared.Operands.{Operands}
@@ -24,7 +22,7 @@ use Rattle.line.specs.Line as line
 use Rattle.line.proofs.Lines as lines
 use Rattle.effect.specs.declared.Settings.{Settings}
 use Rattle.effect.specs.declared.execute.Considered.{Considered}
-use Rattle.effect.specs.Inner.{consideredOf}
+use Rattle.effect.specs.Inner.{atLength, consideredOf}
 use Rattle.machine.specs.declared.Machine.{Machine}
 use Rattle.machine.specs.declared.Ran.{Ran}
 use Rattle.machine.specs.declared.Stop.{Stop}
@@ -51,11 +49,8 @@ se-once x r t = unique
 pub ex-once : (x r t : ℕ) → r ≡ exOf x → t ≡ exOf x → r ≡ t
 ex-once x r t = unique
 
-pub operation-once : (opcode : ℕ) (r t : Asked) → r ≡ askedOf opcode → t ≡ askedOf opcode → r ≡ t
-operation-once opcode r t = unique
-
-pub operate-once : (op : Op) (m l n flags : ℕ) (r t : Written) → r ≡ writtenOf op m l n flags → t ≡ writtenOf op m l n flags → r ≡ t
-operate-once op m l n flags r t = unique
+pub operate-once : (opcode m l n flags : ℕ) (r t : Operated) → r ≡ operatedBy (askedOf opcode) m l n flags → t ≡ operatedBy (askedOf opcode) m l n flags → r ≡ t
+operate-once opcode m l n flags r t = unique
 
 pub form-once : (opcode : ℕ) (r t : Form) → r ≡ cell.formOf opcode → t ≡ cell.formOf opcode → r ≡ t
 form-once opcode r t = unique
@@ -78,8 +73,9 @@ print-once c before r t room room' p q = lines.print-once r t room room' (unique
 pub read-once : (text : List ℕ) (r t : ReadLine) → lines.Small r → line.Reads text (line.saidOf r) → line.Reads text (line.saidOf t) → r ≡ t
 read-once = lines.read-once
 
+-- the stop or the effect, whether it is said in short or at length
 pub consider-once : (c : ℕ) (regs cells : List ℕ) (s : Settings) (r t : Considered)
-    → r ≡ consideredOf (cell.decodeOf c) regs s cells → t ≡ consideredOf (cell.decodeOf c) regs s cells → r ≡ t
+    → atLength s r ≡ consideredOf (cell.decodeOf c) regs s cells → atLength s t ≡ consideredOf (cell.decodeOf c) regs s cells → atLength s r ≡ atLength s t
 consider-once c regs cells s r t = unique
 
 pub fresh-once : (r t : Machine) → r ≡ freshMachine → t ≡ freshMachine → r ≡ t
