@@ -23,7 +23,8 @@ use Rattle.job.proofs.Numbers.{bound, take-bytes, drop-bytes, little-bytes}
 use Rattle.job.proofs.Words.{number-drop}
 use Rattle.job.proofs.Walk.{SoFar}
 use Rattle.job.proofs.Rules.{and-left, and-right}
-use Rattle.job.proofs.Pieces.{sets-append, head-length, length-record, run-payload, value-none, value-record, value-payload, setup-none, setup-record, setup-payload}
+use Rattle.text.proofs.Adds.{sets-append}
+use Rattle.job.proofs.Pieces.{head-length, length-record, run-payload, value-none, value-record, value-payload, setup-none, setup-record, setup-payload}
 use Rattle.demand.specs.Reload.{Words32}
 
 -- ---- a number is read as it was written

@@ -4,7 +4,8 @@ use mathlib.Core.Path.{_≡_, refl}
 use mathlib.Core.Bool.{true}
 use Rattle.word.specs.Word.{seOf, exOf, writtenOf, opOf, askedOf}
 use Rattle.cell.specs.Cell.{legal, immediate, formOf, decodeOf}
-use Rattle.line.specs.Line.{digits, decimal, mnemonics, wordOf, lineOf}
+use Rattle.text.specs.Text.{digits, decimal}
+use Rattle.line.specs.Line.{mnemonics, wordOf, lineOf}
 use Rattle.effect.specs.Operands.{operandOf}
 use Rattle.effect.specs.Effect.{flagsOf, operationOf, loadOf, ldstOf, bzOf, registersOf, immediateOf, effectOf, behindOf}
 use Rattle.effect.specs.Refusal.{refusedBy}

@@ -5,7 +5,8 @@ use mathlib.Core.Bool.{Bool, true, false, _&&_}
 use mathlib.Core.List.{List, [], _∷_}
 use lib.Dec.{eqb}
 use lib.ListN.{getD, set, replicate}
-use Rattle.line.specs.Line.{bytes, lineOf}
+use Rattle.text.specs.Text.{bytes}
+use Rattle.line.specs.Line.{lineOf}
 use Rattle.machine.specs.State.{State}
 use Rattle.machine.specs.Calls.{Out, runOf}
 

@@ -13,15 +13,12 @@ use lib.Seq.{sets, length-sets, drop-cons, drop-drop}
 use borrow.Author.Tests.{eq-eqb, ne-eqb}
 use Rattle.effect.specs.declared.Settings.{Settings}
 use Rattle.effect.proofs.Safe.{picked}
+use Rattle.text.proofs.Adds.{sets-append}
 use Rattle.machine.specs.State.{mostCells}
 use Rattle.job.specs.Job.{bytesOf}
 use Rattle.job.specs.Saving.{recordOf, wordBytes, runOf, runsFrom, valueRecord, valuesFrom, freshOf, setupOf}
 use Rattle.job.specs.Inner.{Stored, Fits, spanOf}
 use Rattle.job.proofs.Numbers.{length-bytes}
-
-pub sets-append : (p q l : List ℕ) (i : ℕ) → sets l i (p ++ q) ≡ sets (sets l i p) (i + length p) q
-sets-append [] q l i = rw add-zero
-sets-append (a ∷ p) q l i = sets-append p q (set l i a) (suc i) ∙ ap (λ (k : ℕ). sets (sets l i (a ∷ p)) k q) (omega arith)
 
 -- a piece stored where another ends
 pub stored-then : (p q : List ℕ) {l m n : List ℕ} {at k r : ℕ} → Stored l at p m k → Stored m k q n r → Stored l at (p ++ q) n r

@@ -10,9 +10,7 @@ use lib.ListN.{length, getD, drop}
 use Rattle.cell.specs.declared.Instruction.{Instruction}
 use Rattle.cell.specs.declared.Instruction.the-variants.{Registers, Immediate, Reserved}
 use Rattle.cell.specs.Cell.{Said, decodeOf}
-use Rattle.text.specs.Text.{named}
-pub use Rattle.text.specs.Text.{bytes}
-unfoldable pub use Rattle.text.specs.Text.{digits, decimal}
+use Rattle.text.specs.Text.{bytes, decimal, named}
 use Rattle.line.specs.declared.Printed.{Printed}
 use Rattle.line.specs.declared.Printed.the-variants.{Length, NoRoom}
 use Rattle.line.specs.declared.ReadLine.{ReadLine}

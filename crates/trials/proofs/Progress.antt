@@ -1,6 +1,6 @@
 -- What is done and what is left while calls are made one after the other.
 use mathlib.Core.Path.{_≡_, refl, ap, _∙_}
-use mathlib.Core.List.{List, [], _∷_, _++_, append-assoc}
+use mathlib.Core.List.{List, _++_, append-assoc, append-nil}
 use Prim.Native.Nat.{ℕ, zero, suc, _+_, _-_, _<_, _≤_}
 use native.Mathlib.Omega.{arith}
 use lib.ListN.{getD}
@@ -16,10 +16,6 @@ pub record Going (s : List ℕ) (all : List ℕ) (before : List ℕ) (at : ℕ) 
   pub done : List ℕ
   pub added : Added before at done text end
   pub rest : done ++ callsText left s place x ≡ all
-
-append-nil : (p : List ℕ) → p ++ [] ≡ p
-append-nil [] = refl
-append-nil (x ∷ p) = ap (λ (t : List ℕ). x ∷ t) (append-nil p)
 
 calls-step : (n : ℕ) (s : List ℕ) (at : ℕ) (x : State) (o : Out) → 0 < n → o ≡ callBy (getD s at 0) (longAt s (at + 1)) x → ranText o ++ callsText (n - 1) s (at + 9) (o .state) ≡ callsText n s at x
 calls-step zero s at x o h e = absurd (omega arith)
