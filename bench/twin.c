@@ -68,7 +68,10 @@ static int illegal_store(uint32_t p, uint32_t v)
     return p >= FIRST_SPECIAL && !(p == MASK_ADDRESS && v < 512) && !(p == MODE_ADDRESS && v < 4);
 }
 
-/* One step. Answers DONE if the run goes on. A refused step writes nothing. */
+/* A register's value before the step, once PC has advanced. */
+static uint32_t old(const uint32_t *regs, uint32_t i, uint32_t pc) { return i == PC ? pc : regs[i]; }
+
+/* One step. Answers DONE if the run goes on. PC advances first, so that R255 reads as PC+1; a refused step takes that back. */
 static inline enum stop step(struct machine *m, uint32_t *cells, size_t size, uint32_t *journal, uint32_t capacity, struct ran *ran)
 {
     uint32_t *regs = m->regs, pc = regs[PC];
@@ -81,14 +84,15 @@ static inline enum stop step(struct machine *m, uint32_t *cells, size_t size, ui
 
     uint32_t cell = cells[pc], opcode = cell >> 24, n = cell >> 16 & 255, r = cell >> 8 & 255, l = cell & 255, imm = cell & 65535;
     uint32_t next = pc + 1;
-    uint32_t rn = n == PC ? next : regs[n];
+    regs[PC] = next;
+    uint32_t rn = regs[n];
     uint32_t x, y; /* the operation's operands */
     if (opcode >= 35 && opcode <= 53) {
         x = rn;
         y = se(imm);
     } else {
-        x = r == PC ? next : regs[r];
-        y = l == PC ? next : regs[l];
+        x = regs[r];
+        y = regs[l];
     }
 
     uint32_t *entry = journal + 8 * (size_t)m->depth;
@@ -99,18 +103,17 @@ static inline enum stop step(struct machine *m, uint32_t *cells, size_t size, ui
 
     switch (opcode) {
     case 0:
-        enter(entry, n | l << 8, regs[n], regs[l], 0, 0, 3);
-        regs[PC] = next;
+        enter(entry, n | l << 8, old(regs, n, pc), old(regs, l, pc), 0, 0, 3);
         regs[l] = rn;
         regs[n] = x;
         goto done;
     case 1:
         if (faults(y, size) || faults(x, size))
-            return FAULT;
+            goto fault;
         if (y > MODE_ADDRESS || illegal_store(x, rn))
             goto illegal;
         value = y < FIRST_SPECIAL ? cells[y] : y == FIRST_SPECIAL ? m->flags : y == MASK_ADDRESS ? m->mask : m->mode;
-        enter(entry, y ? n : 0, y ? regs[n] : 0, 0, 0, 0, y != 0);
+        enter(entry, y ? n : 0, y ? old(regs, n, pc) : 0, 0, 0, 0, y != 0);
         if (x == MASK_ADDRESS) {
             m->mask = rn;
         } else if (x == MODE_ADDRESS) {
@@ -121,7 +124,6 @@ static inline enum stop step(struct machine *m, uint32_t *cells, size_t size, ui
             entry[7] += 4;
             cells[x] = rn;
         }
-        regs[PC] = next;
         if (y)
             regs[n] = value;
         goto done;
@@ -199,36 +201,33 @@ static inline enum stop step(struct machine *m, uint32_t *cells, size_t size, ui
     case 53: value = (int32_t)y > (int32_t)x; break;
     case 54:
     case 107:
-        enter(entry, r | l << 8, regs[r], regs[l], 0, 0, 3);
-        regs[PC] = next;
+        enter(entry, r | l << 8, old(regs, r, pc), old(regs, l, pc), 0, 0, 3);
         regs[r] = opcode == 54 ? se(rn) : ex(rn & 65535);
         regs[l] = opcode == 54 ? se(rn >> 16) : ex(rn >> 16);
         goto done;
     case 121:
         enter(entry, 0, 0, 0, 0, 0, 0);
-        regs[PC] = rn == 0 ? next + se(imm) : next;
+        if (rn == 0)
+            regs[PC] = next + se(imm);
         goto done;
     case 122:
         enter(entry, 0, 0, 0, 0, 0, 0);
-        regs[PC] = next;
         ran->value = rn;
         ran->imm = imm;
         after = INTERRUPT;
         goto done;
     default:
         if (opcode >= 80 && opcode <= 106)
-            return FLOATS;
+            goto floats;
     illegal:
         enter(entry, 0, 0, 0, 0, 0, 0);
-        regs[PC] = next;
         m->flags |= ILLEGAL;
         raised = ILLEGAL;
         goto done;
     }
 
     /* one register */
-    enter(entry, n, regs[n], 0, 0, 0, 1);
-    regs[PC] = next;
+    enter(entry, n, old(regs, n, pc), 0, 0, 0, 1);
     regs[n] = value;
     m->flags = (m->flags & ~governed) | raised;
 done:
@@ -240,17 +239,25 @@ done:
         return ENDED;
     }
     return after == DONE && (raised & m->mask) ? TRAP : after;
+fault:
+    regs[PC] = pc;
+    return FAULT;
+floats:
+    regs[PC] = pc;
+    return FLOATS;
 }
 
 __attribute__((noinline)) static struct ran run(struct machine *m, uint32_t *cells, size_t size, uint32_t *journal, size_t words, uint64_t budget)
 {
     uint32_t capacity = capacity_of(words);
     struct ran ran = {check(m, size, capacity), 0, 0, 0};
+    struct machine here = *m;
     while (ran.stop == DONE && ran.count < budget) {
-        uint32_t depth = m->depth;
-        ran.stop = step(m, cells, size, journal, capacity, &ran);
-        ran.count += m->depth - depth;
+        uint32_t depth = here.depth;
+        ran.stop = step(&here, cells, size, journal, capacity, &ran);
+        ran.count += here.depth - depth;
     }
+    *m = here;
     return ran;
 }
 
@@ -283,10 +290,12 @@ static inline enum stop undo(struct machine *m, uint32_t *cells, size_t size, co
 __attribute__((noinline)) static struct ran back(struct machine *m, uint32_t *cells, size_t size, const uint32_t *journal, size_t words, uint64_t number)
 {
     struct ran ran = {check(m, size, capacity_of(words)), 0, 0, 0};
+    struct machine here = *m;
     while (ran.stop == DONE && ran.count < number) {
-        ran.stop = undo(m, cells, size, journal);
+        ran.stop = undo(&here, cells, size, journal);
         ran.count += ran.stop == DONE;
     }
+    *m = here;
     return ran;
 }
 
@@ -342,11 +351,12 @@ static int load(struct machine *m, uint32_t *cells, size_t size, const uint8_t *
 }
 
 static uint8_t job[MOST_BYTES];
-static uint32_t cells[MOST_CELLS], journal[8 * MOST_ENTRIES];
+
 
 int main(int argc, char **argv)
 {
     static struct machine m;
+    uint32_t *cells = malloc(MOST_CELLS * 4), *journal = malloc(32 * MOST_ENTRIES);
     uint32_t rounds = argc > 1 ? strtoul(argv[1], 0, 10) : 1;
     size_t size = argc > 2 ? strtoul(argv[2], 0, 10) : MOST_CELLS;
     uint64_t number = argc > 3 ? strtoul(argv[3], 0, 10) : MOST_ENTRIES;
