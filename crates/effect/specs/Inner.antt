@@ -86,11 +86,11 @@ pairBy reversed first second pc a b s = record {
 abbrev pub atLength : Settings → Considered → Considered
 atLength s Float = Float
 atLength s Fault = Fault
-atLength s (Still pc raised flags) = Does (movesBy pc raised flags s)
-atLength s (Writes value raised flags n pc) = Does (writesBy value raised flags n pc s)
-atLength s (Stores value address pc) = Does (storesBy value address pc s)
-atLength s (Splits first second pc a b) = Does (pairBy false first second pc a b s)
-atLength s (Swaps first second pc a b) = Does (pairBy true first second pc a b s)
+atLength s (Still m) = Does (movesBy (m .pc) (m .raised) (m .flags) s)
+atLength s (Writes w) = Does (writesBy (w .value) (w .raised) (w .flags) (w .n) (w .pc) s)
+atLength s (Stores w) = Does (storesBy (w .value) (w .address) (w .pc) s)
+atLength s (Splits w) = Does (pairBy false (w .first) (w .second) (w .pc) (w .a) (w .b) s)
+atLength s (Swaps w) = Does (pairBy true (w .first) (w .second) (w .pc) (w .a) (w .b) s)
 atLength s (Does e) = Does e
 
 -- LDST: stop 5, or its effect

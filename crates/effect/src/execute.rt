@@ -16,43 +16,49 @@ use crate::effects;
 use word::Flag;
 use word::Operated;
 
-// What becomes of an instruction: stop 6, stop 5, or what it does. Most instructions say that in short, so that little is handed
-// on: the next PC, with the flags and those that were written as 1; register n and its value; a cell and its value; two registers,
-// a before b or b before a. The others say the whole effect.
+// PC moves, and the flags become these; those that were written as 1 are raised.
+pub struct Moving {
+    pub pc: u32,
+    pub raised: u32,
+    pub flags: u32,
+}
+
+// The same, and register n gets a value.
+pub struct Writing {
+    pub value: u32,
+    pub raised: u32,
+    pub flags: u32,
+    pub n: u8,
+    pub pc: u32,
+}
+
+// A cell gets a value.
+pub struct Storing {
+    pub value: u32,
+    pub address: u32,
+    pub pc: u32,
+}
+
+// Registers a and b get a value each.
+pub struct Pairing {
+    pub first: u32,
+    pub second: u32,
+    pub pc: u32,
+    pub a: u8,
+    pub b: u8,
+}
+
+// What becomes of an instruction: stop 6, stop 5, or what it does. Most instructions say that in short, so that little is handed on
+// (splits write a before b, swaps b before a); the others say the whole effect. The fields' order is part of what a step costs: words
+// lie over words, and bytes over bytes.
 pub enum Considered {
     Float,
     Fault,
-    Still {
-        pc: u32,
-        raised: u32,
-        flags: u32,
-    },
-    Writes {
-        value: u32,
-        raised: u32,
-        flags: u32,
-        n: u8,
-        pc: u32,
-    },
-    Stores {
-        value: u32,
-        address: u32,
-        pc: u32,
-    },
-    Splits {
-        first: u32,
-        second: u32,
-        pc: u32,
-        a: u8,
-        b: u8,
-    },
-    Swaps {
-        first: u32,
-        second: u32,
-        pc: u32,
-        a: u8,
-        b: u8,
-    },
+    Still(Moving),
+    Writes(Writing),
+    Stores(Storing),
+    Splits(Pairing),
+    Swaps(Pairing),
     Does(Effect),
 }
 
@@ -129,13 +135,13 @@ fn second(opcode: u8, imm: u16, regs: &[u32; 256], l: u8, next: u32) -> u32
 fn writes(n: u8, value: u32, pc: u32, s: Settings) -> Considered
     ensures { λ r. ⌜ atLength s r ≡ Considered.Does (writesOf n value pc s) ⌝ }
 {
-    Considered::Writes {
+    Considered::Writes(Writing {
         value,
         raised: 0,
         flags: s.flags,
         n,
         pc,
-    }
+    })
 }
 
 // LDST, whose load pointer is l and whose store pointer is m.
@@ -150,11 +156,11 @@ fn transfer(n: u8, rn: u32, m: u32, l: u32, cells: &[u32], pc: u32, s: Settings)
     }
     if m == 0 {
         if l == 0 {
-            return Considered::Still {
+            return Considered::Still(Moving {
                 pc,
                 raised: 0,
                 flags: s.flags,
-            };
+            });
         }
         if l < Address::FLAGS {
             return writes(n, cells[l as usize], pc, s);
@@ -163,11 +169,11 @@ fn transfer(n: u8, rn: u32, m: u32, l: u32, cells: &[u32], pc: u32, s: Settings)
     }
     if l == 0 {
         if m < Address::FLAGS {
-            return Considered::Stores {
+            return Considered::Stores(Storing {
                 value: rn,
                 address: m,
                 pc,
-            };
+            });
         }
     }
     Considered::Does(effects::ldst(n, rn, m, l, load(cells, s, l), pc, s))
@@ -179,22 +185,22 @@ fn operated(opcode: u8, n: u8, m: u32, l: u32, rn: u32, pc: u32, s: Settings) ->
 {
     let done = word::operate(opcode, m, l, rn, s.flags);
     match done {
-        Operated::Wrote(w) => Considered::Writes {
+        Operated::Wrote(w) => Considered::Writes(Writing {
             value: w.value,
             raised: w.raised,
             flags: (s.flags & !w.governed) | w.raised,
             n,
             pc,
-        },
+        }),
         Operated::Nothing => {
             if is_float(opcode) {
                 return Considered::Float;
             }
-            Considered::Still {
+            Considered::Still(Moving {
                 pc,
                 raised: Flag::ILLEGAL,
                 flags: s.flags | Flag::ILLEGAL,
-            }
+            })
         }
     }
 }
@@ -224,38 +230,38 @@ pub fn consider(cell: u32, regs: &[u32; 256], cells: &[u32], s: Settings) -> Con
     let x = first(opcode, rn, regs, m, pc);
     let y = second(opcode, imm, regs, l, pc);
     match opcode {
-        0 => Considered::Swaps {
+        0 => Considered::Swaps(Pairing {
             first: x,
             second: rn,
             pc,
             a: n,
             b: l,
-        },
+        }),
         1 => transfer(n, rn, x, y, cells, pc, s),
         3 => writes(n, rn / 65536 * 65536 + imm as u32, pc, s),
         4 => writes(n, imm as u32 * 65536 + rn % 65536, pc, s),
         5 => writes(n, imm as u32, pc, s),
         6 => writes(n, word::se(imm), pc, s),
         7 => writes(n, word::ex(imm), pc, s),
-        54 => Considered::Splits {
+        54 => Considered::Splits(Pairing {
             first: word::se((rn % 65536) as u16),
             second: word::se((rn / 65536) as u16),
             pc,
             a: m,
             b: l,
-        },
-        107 => Considered::Splits {
+        }),
+        107 => Considered::Splits(Pairing {
             first: word::ex((rn % 65536) as u16),
             second: word::ex((rn / 65536) as u16),
             pc,
             a: m,
             b: l,
-        },
-        121 => Considered::Still {
+        }),
+        121 => Considered::Still(Moving {
             pc: branch(rn, imm, pc),
             raised: 0,
             flags: s.flags,
-        },
+        }),
         122 => Considered::Does(effects::int(rn, imm, pc, s)),
         _ => operated(opcode, n, x, y, rn, pc, s),
     }

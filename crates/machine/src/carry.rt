@@ -23,6 +23,10 @@ use crate::turn::verdict_of;
 use effect::Address;
 use effect::Effect;
 use effect::Settings;
+use effect::execute::Moving;
+use effect::execute::Pairing;
+use effect::execute::Storing;
+use effect::execute::Writing;
 
 // An entry's word 1.
 fn packed(s: Settings) -> u32
@@ -68,23 +72,21 @@ pub(crate) fn moves(
     s: Settings,
     depth: u32,
     journal: &mut [u32],
-    pc: u32,
-    raised: u32,
-    flags: u32,
+    m: Moving,
 ) -> Advanced
     requires { ⌜ InRange s × (depth < capacityOf (now journal)) ⌝ }
     ensures { λ r. ⌜ ((cells : List ℕ) → advancedTo r (now (regs .exit)) cells (now (journal .exit))
-        ≡ doneOf (movesBy pc raised flags s) (stateWith (now (regs .entry)) s depth cells (now (journal .entry)))) ⌝ }
+        ≡ doneOf (movesBy (m .pc) (m .raised) (m .flags) s) (stateWith (now (regs .entry)) s depth cells (now (journal .entry)))) ⌝ }
 {
     enter(journal, depth, [regs[255], packed(s), 0, 0, 0, 0, 0, 0]);
-    regs[255] = pc;
+    regs[255] = m.pc;
     let after = regs[255];
     let settings = Settings {
-        flags,
+        flags: m.flags,
         mask: s.mask,
         mode: s.mode,
     };
-    left_at(after, settings, depth, raised)
+    left_at(after, settings, depth, m.raised)
 }
 
 // Register n gets a value, and flags are written.
@@ -93,31 +95,27 @@ pub(crate) fn writes(
     s: Settings,
     depth: u32,
     journal: &mut [u32],
-    value: u32,
-    raised: u32,
-    flags: u32,
-    n: u8,
-    pc: u32,
+    w: Writing,
 ) -> Advanced
     requires { ⌜ InRange s × (depth < capacityOf (now journal)) ⌝ }
     ensures { λ r. ⌜ ((cells : List ℕ) → advancedTo r (now (regs .exit)) cells (now (journal .exit))
-        ≡ doneOf (writesBy value raised flags n pc s) (stateWith (now (regs .entry)) s depth cells (now (journal .entry)))) ⌝ }
+        ≡ doneOf (writesBy (w .value) (w .raised) (w .flags) (w .n) (w .pc) s) (stateWith (now (regs .entry)) s depth cells (now (journal .entry)))) ⌝ }
 {
-    let i = n as usize;
+    let i = w.n as usize;
     enter(
         journal,
         depth,
-        [regs[255], packed(s), n as u32, regs[i], 0, 0, 0, 1],
+        [regs[255], packed(s), w.n as u32, regs[i], 0, 0, 0, 1],
     );
-    regs[255] = pc;
-    regs[i] = value;
+    regs[255] = w.pc;
+    regs[i] = w.value;
     let after = regs[255];
     let settings = Settings {
-        flags,
+        flags: w.flags,
         mask: s.mask,
         mode: s.mode,
     };
-    left_at(after, settings, depth, raised)
+    left_at(after, settings, depth, w.raised)
 }
 
 // A cell gets a value.
@@ -127,23 +125,22 @@ pub(crate) fn stores(
     depth: u32,
     cells: &mut [u32],
     journal: &mut [u32],
-    value: u32,
-    address: u32,
-    pc: u32,
+    w: Storing,
 ) -> Advanced
     requires { ⌜ InRange s × (depth < capacityOf (now journal)) ⌝ }
-    requires { ⌜ address < length (now cells) ⌝ }
+    requires { ⌜ w .address < length (now cells) ⌝ }
     ensures { λ r. ⌜ advancedTo r (now (regs .exit)) (now (cells .exit)) (now (journal .exit))
-        ≡ doneOf (storesBy value address pc s) (stateWith (now (regs .entry)) s depth (now (cells .entry)) (now (journal .entry))) ⌝ }
+        ≡ doneOf (storesBy (w .value) (w .address) (w .pc) s) (stateWith (now (regs .entry)) s depth (now (cells .entry)) (now (journal .entry))) ⌝ }
 {
+    let address = w.address;
     let i = address as usize;
     enter(
         journal,
         depth,
         [regs[255], packed(s), 0, 0, 0, address, cells[i], 4],
     );
-    regs[255] = pc;
-    cells[i] = value;
+    regs[255] = w.pc;
+    cells[i] = w.value;
     let after = regs[255];
     left_at(after, s, depth, 0)
 }
@@ -154,25 +151,21 @@ pub(crate) fn splits(
     s: Settings,
     depth: u32,
     journal: &mut [u32],
-    first: u32,
-    second: u32,
-    pc: u32,
-    a: u8,
-    b: u8,
+    w: Pairing,
 ) -> Advanced
     requires { ⌜ InRange s × (depth < capacityOf (now journal)) ⌝ }
     ensures { λ r. ⌜ ((cells : List ℕ) → advancedTo r (now (regs .exit)) cells (now (journal .exit))
-        ≡ doneOf (pairBy false first second pc a b s) (stateWith (now (regs .entry)) s depth cells (now (journal .entry)))) ⌝ }
+        ≡ doneOf (pairBy false (w .first) (w .second) (w .pc) (w .a) (w .b) s) (stateWith (now (regs .entry)) s depth cells (now (journal .entry)))) ⌝ }
 {
-    let i = a as usize;
-    let j = b as usize;
+    let i = w.a as usize;
+    let j = w.b as usize;
     enter(
         journal,
         depth,
         [
             regs[255],
             packed(s),
-            a as u32 + 256 * (b as u32),
+            w.a as u32 + 256 * (w.b as u32),
             regs[i],
             regs[j],
             0,
@@ -180,9 +173,9 @@ pub(crate) fn splits(
             3,
         ],
     );
-    regs[255] = pc;
-    regs[i] = first;
-    regs[j] = second;
+    regs[255] = w.pc;
+    regs[i] = w.first;
+    regs[j] = w.second;
     let after = regs[255];
     left_at(after, s, depth, 0)
 }
@@ -193,25 +186,21 @@ pub(crate) fn swaps(
     s: Settings,
     depth: u32,
     journal: &mut [u32],
-    first: u32,
-    second: u32,
-    pc: u32,
-    a: u8,
-    b: u8,
+    w: Pairing,
 ) -> Advanced
     requires { ⌜ InRange s × (depth < capacityOf (now journal)) ⌝ }
     ensures { λ r. ⌜ ((cells : List ℕ) → advancedTo r (now (regs .exit)) cells (now (journal .exit))
-        ≡ doneOf (pairBy true first second pc a b s) (stateWith (now (regs .entry)) s depth cells (now (journal .entry)))) ⌝ }
+        ≡ doneOf (pairBy true (w .first) (w .second) (w .pc) (w .a) (w .b) s) (stateWith (now (regs .entry)) s depth cells (now (journal .entry)))) ⌝ }
 {
-    let i = a as usize;
-    let j = b as usize;
+    let i = w.a as usize;
+    let j = w.b as usize;
     enter(
         journal,
         depth,
         [
             regs[255],
             packed(s),
-            a as u32 + 256 * (b as u32),
+            w.a as u32 + 256 * (w.b as u32),
             regs[i],
             regs[j],
             0,
@@ -219,9 +208,9 @@ pub(crate) fn swaps(
             3,
         ],
     );
-    regs[255] = pc;
-    regs[j] = second;
-    regs[i] = first;
+    regs[255] = w.pc;
+    regs[j] = w.second;
+    regs[i] = w.first;
     let after = regs[255];
     left_at(after, s, depth, 0)
 }

@@ -94,33 +94,11 @@ pub(crate) fn advance(
     match considered {
         Considered::Float => refused(s, depth, Stop::Float),
         Considered::Fault => refused(s, depth, Stop::Fault),
-        Considered::Still { pc, raised, flags } => {
-            moves(regs, s, depth, journal, pc, raised, flags)
-        }
-        Considered::Writes {
-            value,
-            raised,
-            flags,
-            n,
-            pc,
-        } => { writes(regs, s, depth, journal, value, raised, flags, n, pc) }
-        Considered::Stores { value, address, pc } => {
-            stores(regs, s, depth, cells, journal, value, address, pc)
-        }
-        Considered::Splits {
-            first,
-            second,
-            pc,
-            a,
-            b,
-        } => { splits(regs, s, depth, journal, first, second, pc, a, b) }
-        Considered::Swaps {
-            first,
-            second,
-            pc,
-            a,
-            b,
-        } => { swaps(regs, s, depth, journal, first, second, pc, a, b) }
+        Considered::Still(m) => moves(regs, s, depth, journal, m),
+        Considered::Writes(w) => writes(regs, s, depth, journal, w),
+        Considered::Stores(w) => stores(regs, s, depth, cells, journal, w),
+        Considered::Splits(w) => splits(regs, s, depth, journal, w),
+        Considered::Swaps(w) => swaps(regs, s, depth, journal, w),
         Considered::Does(effect) => does(regs, s, depth, cells, journal, effect),
     }
 }

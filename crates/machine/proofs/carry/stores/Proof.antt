@@ -6,17 +6,20 @@ use borrow.Author.Needs.{needs}
 use Rattle.machine.proofs.carry.stores.Statement.{statement}
 use Rattle.machine.proofs.carry.stores.Tie as tie
 
+cast-i : tie.Need-cast-i
+cast-i c = search needs
+
 element-copy-out-after : tie.Need-element-copy-out-after
 element-copy-out-after c = search needs
 
 packed-requires : tie.Need-packed-requires
 packed-requires c κs = search needs
 
-mul-t18 : tie.Need-mul-t18
-mul-t18 c = search needs
+mul-t17 : tie.Need-mul-t17
+mul-t17 c = search needs
 
-slice-read-t20 : tie.Need-slice-read-t20
-slice-read-t20 c = search needs
+slice-read-t19 : tie.Need-slice-read-t19
+slice-read-t19 c = search needs
 
 enter-requires : tie.Need-enter-requires
 enter-requires c κs = room _ _ (c .before .before .before .before .before .before .pre .0 .1)
@@ -50,10 +53,11 @@ pub stores-spec : {M : Type 1} → statement M
 stores-spec =
     tie.close
     (tie.spec
+    cast-i
     element-copy-out-after
     packed-requires
-    mul-t18
-    slice-read-t20
+    mul-t17
+    slice-read-t19
     enter-requires
     element-write-regs
     mul-cells

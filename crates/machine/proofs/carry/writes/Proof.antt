@@ -7,20 +7,26 @@ use borrow.Author.Needs.{needs}
 use Rattle.machine.proofs.carry.writes.Statement.{statement}
 use Rattle.machine.proofs.carry.writes.Tie as tie
 
+cast-i : tie.Need-cast-i
+cast-i c = search needs
+
 element-copy-out-after : tie.Need-element-copy-out-after
 element-copy-out-after c = search needs
 
 packed-requires : tie.Need-packed-requires
 packed-requires c κs = search needs
 
-mul-t21 : tie.Need-mul-t21
-mul-t21 c = search needs
+cast-t16 : tie.Need-cast-t16
+cast-t16 c = search needs
 
-element-copy-out-t24 : tie.Need-element-copy-out-t24
-element-copy-out-t24 c = search needs
+mul-t17 : tie.Need-mul-t17
+mul-t17 c = search needs
+
+element-copy-out-t20 : tie.Need-element-copy-out-t20
+element-copy-out-t20 c = search needs
 
 enter-requires : tie.Need-enter-requires
-enter-requires c κs = room _ _ (c .before .before .before .before .before .pre .1)
+enter-requires c κs = room _ _ (c .before .before .before .before .before .before .before .pre .1)
 
 element-write-regs : tie.Need-element-write-regs
 element-write-regs c = search needs
@@ -35,23 +41,25 @@ element-copy-out-after-2 : tie.Need-element-copy-out-after-2
 element-copy-out-after-2 c = search needs
 
 left-at-requires : tie.Need-left-at-requires
-left-at-requires c κs = few _ _ (c .before .before .before .before .before .before .before .before .before .pre .1)
+left-at-requires c κs = few _ _ (c .before .before .before .before .before .before .before .before .before .before .before .pre .1)
 
 same-length : tie.Need-same-length
 same-length c = search needs
 
 returns : tie.Need-returns
 unfolding regsAfter settingsAfter cellsAfter entryOf courseOf
-returns c = λ cells. rw (c .left-at .ensures .0, c .left-at .ensures .1 .0, c .left-at .ensures .1 .1, c .before .before .before .before .enter .ensures, c .before .before .before .before .before .before .packed .ensures, add-zero)
+returns c = λ cells. rw (c .left-at .ensures .0, c .left-at .ensures .1 .0, c .left-at .ensures .1 .1, c .before .before .before .before .enter .ensures, c .before .before .before .before .before .before .before .packed .ensures, add-zero)
 
 pub writes-spec : {M : Type 1} → statement M
 writes-spec =
     tie.close
     (tie.spec
+    cast-i
     element-copy-out-after
     packed-requires
-    mul-t21
-    element-copy-out-t24
+    cast-t16
+    mul-t17
+    element-copy-out-t20
     enter-requires
     element-write-regs
     mul-regs

@@ -95,9 +95,9 @@ enum-known-considered-3 c = search needs
 
 stores-requires : tie.Need-stores-requires
 stores-requires c κs = let k = c .before .before .before .before .before .before in
-    let x = c .before .before .before .before .considered3 .given .0 in
-    let told : k .consider .result ≡ Stores (x .0) (x .1 .0) (x .1 .1 .0) = search needs in
-    let safe = safe-does (state (start k)) (looked k) (storesBy (x .0) (x .1 .0) (x .1 .1 .0) (start k .args .s)) (read-as _ _ (Stores (x .0) (x .1 .0) (x .1 .1 .0)) _ told (considering k)) (start k .pre .0 .settled) in
+    let w = c .before .before .before .before .considered3 .given .0 .0 in
+    let told : k .consider .result ≡ Stores w = search needs in
+    let safe = safe-does (state (start k)) (looked k) (storesBy (w .value) (w .address) (w .pc) (start k .args .s)) (read-as _ _ (Stores w) _ told (considering k)) (start k .pre .0 .settled) in
     ((start k .pre .0 .settled, below k), safe .store refl .1)
 
 enum-known-considered-4 : tie.Need-enum-known-considered-4
@@ -144,9 +144,9 @@ same-length-4 c = search needs
 
 returns-6 : tie.Need-returns-6
 returns-6 c = let k = c .before .before .before .before .before .before .before .before in
-    let x = c .before .before .before .before .before .before .considered .given .0 in
-    let told : k .consider .result ≡ Still (x .0) (x .1 .0) (x .1 .1 .0) = search needs in
-    c .before .before .moves .ensures (start k .args .cells .now) ∙ does-step (state (start k)) (looked k) (movesBy (x .0) (x .1 .0) (x .1 .1 .0) (start k .args .s)) (read-as _ _ (Still (x .0) (x .1 .0) (x .1 .1 .0)) _ told (considering k))
+    let w = c .before .before .before .before .before .before .considered .given .0 .0 in
+    let told : k .consider .result ≡ Still w = search needs in
+    c .before .before .moves .ensures (start k .args .cells .now) ∙ does-step (state (start k)) (looked k) (movesBy (w .pc) (w .raised) (w .flags) (start k .args .s)) (read-as _ _ (Still w) _ told (considering k))
 
 same-length-5 : tie.Need-same-length-5
 same-length-5 c = search needs
@@ -156,9 +156,9 @@ same-length-6 c = search needs
 
 returns-7 : tie.Need-returns-7
 returns-7 c = let k = c .before .before .before .before .before .before .before .before in
-    let x = c .before .before .before .before .before .before .considered2 .given .0 in
-    let told : k .consider .result ≡ Writes (x .0) (x .1 .0) (x .1 .1 .0) (x .1 .1 .1 .0) (x .1 .1 .1 .1 .0) = search needs in
-    c .before .before .writes .ensures (start k .args .cells .now) ∙ does-step (state (start k)) (looked k) (writesBy (x .0) (x .1 .0) (x .1 .1 .0) (x .1 .1 .1 .0) (x .1 .1 .1 .1 .0) (start k .args .s)) (read-as _ _ (Writes (x .0) (x .1 .0) (x .1 .1 .0) (x .1 .1 .1 .0) (x .1 .1 .1 .1 .0)) _ told (considering k))
+    let w = c .before .before .before .before .before .before .considered2 .given .0 .0 in
+    let told : k .consider .result ≡ Writes w = search needs in
+    c .before .before .writes .ensures (start k .args .cells .now) ∙ does-step (state (start k)) (looked k) (writesBy (w .value) (w .raised) (w .flags) (w .n) (w .pc) (start k .args .s)) (read-as _ _ (Writes w) _ told (considering k))
 
 same-length-7 : tie.Need-same-length-7
 same-length-7 c = search needs
@@ -168,9 +168,9 @@ same-length-8 c = search needs
 
 returns-8 : tie.Need-returns-8
 returns-8 c = let k = c .before .before .before .before .before .before .before .before .before .before .before in
-    let x = c .before .before .before .before .before .before .before .before .before .considered3 .given .0 in
-    let told : k .consider .result ≡ Stores (x .0) (x .1 .0) (x .1 .1 .0) = search needs in
-    c .before .before .before .before .stores .ensures ∙ does-step (state (start k)) (looked k) (storesBy (x .0) (x .1 .0) (x .1 .1 .0) (start k .args .s)) (read-as _ _ (Stores (x .0) (x .1 .0) (x .1 .1 .0)) _ told (considering k))
+    let w = c .before .before .before .before .before .before .before .before .before .considered3 .given .0 .0 in
+    let told : k .consider .result ≡ Stores w = search needs in
+    c .before .before .before .before .stores .ensures ∙ does-step (state (start k)) (looked k) (storesBy (w .value) (w .address) (w .pc) (start k .args .s)) (read-as _ _ (Stores w) _ told (considering k))
 
 same-length-9 : tie.Need-same-length-9
 same-length-9 c = search needs
@@ -180,9 +180,9 @@ same-length-10 c = search needs
 
 returns-9 : tie.Need-returns-9
 returns-9 c = let k = c .before .before .before .before .before .before .before .before in
-    let x = c .before .before .before .before .before .before .considered4 .given .0 in
-    let told : k .consider .result ≡ Splits (x .0) (x .1 .0) (x .1 .1 .0) (x .1 .1 .1 .0) (x .1 .1 .1 .1 .0) = search needs in
-    c .before .before .splits .ensures (start k .args .cells .now) ∙ does-step (state (start k)) (looked k) (pairBy false (x .0) (x .1 .0) (x .1 .1 .0) (x .1 .1 .1 .0) (x .1 .1 .1 .1 .0) (start k .args .s)) (read-as _ _ (Splits (x .0) (x .1 .0) (x .1 .1 .0) (x .1 .1 .1 .0) (x .1 .1 .1 .1 .0)) _ told (considering k))
+    let w = c .before .before .before .before .before .before .considered4 .given .0 .0 in
+    let told : k .consider .result ≡ Splits w = search needs in
+    c .before .before .splits .ensures (start k .args .cells .now) ∙ does-step (state (start k)) (looked k) (pairBy false (w .first) (w .second) (w .pc) (w .a) (w .b) (start k .args .s)) (read-as _ _ (Splits w) _ told (considering k))
 
 same-length-11 : tie.Need-same-length-11
 same-length-11 c = search needs
@@ -192,9 +192,9 @@ same-length-12 c = search needs
 
 returns-10 : tie.Need-returns-10
 returns-10 c = let k = c .before .before .before .before .before .before .before .before in
-    let x = c .before .before .before .before .before .before .considered5 .given .0 in
-    let told : k .consider .result ≡ Swaps (x .0) (x .1 .0) (x .1 .1 .0) (x .1 .1 .1 .0) (x .1 .1 .1 .1 .0) = search needs in
-    c .before .before .swaps .ensures (start k .args .cells .now) ∙ does-step (state (start k)) (looked k) (pairBy true (x .0) (x .1 .0) (x .1 .1 .0) (x .1 .1 .1 .0) (x .1 .1 .1 .1 .0) (start k .args .s)) (read-as _ _ (Swaps (x .0) (x .1 .0) (x .1 .1 .0) (x .1 .1 .1 .0) (x .1 .1 .1 .1 .0)) _ told (considering k))
+    let w = c .before .before .before .before .before .before .considered5 .given .0 .0 in
+    let told : k .consider .result ≡ Swaps w = search needs in
+    c .before .before .swaps .ensures (start k .args .cells .now) ∙ does-step (state (start k)) (looked k) (pairBy true (w .first) (w .second) (w .pc) (w .a) (w .b) (start k .args .s)) (read-as _ _ (Swaps w) _ told (considering k))
 
 same-length-13 : tie.Need-same-length-13
 same-length-13 c = search needs
