@@ -63,11 +63,7 @@ pub fn edges(random: &mut Random, trials: &mut Trials) {
             load(m, 70_000, &[cells(0, &[7]), cells(m - 1, &vec![9; 1 + over as usize]), end()].concat(), trials);
         }
     }
-    for job in odd_jobs() {
-        load_any_room(RUNJOB_CELLS, &job, random, trials);
-        runjob(&job, trials);
-    }
-    for job in running_jobs() {
+    for job in odd_jobs().into_iter().chain(running_jobs()) {
         load_any_room(RUNJOB_CELLS, &job, random, trials);
         runjob(&job, trials);
     }

@@ -21,14 +21,13 @@ mod trial;
 use std::io::{self, Read, Write};
 use std::process::ExitCode;
 
-const USAGE: &str = "oracle generate SEED COUNT | select KINDS | answer | table | runjob | assemble";
+const USAGE: &str = "oracle generate SEED COUNT | answer | table | runjob | assemble";
 
 fn main() -> ExitCode {
     let arguments: Vec<String> = std::env::args().skip(1).collect();
     let arguments: Vec<&str> = arguments.iter().map(String::as_str).collect();
     let done = match arguments.as_slice() {
         ["generate", seed, count] => generate(seed, count),
-        ["select", kinds] => select(kinds),
         ["answer"] => answer(),
         ["table"] => table(),
         ["runjob"] => runjob(),
@@ -58,20 +57,6 @@ fn generate(seed: &str, count: &str) -> Result<(), String> {
     let seed = seed.parse().map_err(|_| USAGE)?;
     let count = count.parse().map_err(|_| USAGE)?;
     output(&generate::trials(seed, count))
-}
-
-/// The trials of some kinds, named by their digits, in order.
-fn select(kinds: &str) -> Result<(), String> {
-    let file = input()?;
-    let mut kept = Vec::new();
-    for (kind, payload) in trial::split(&file)? {
-        if kinds.bytes().any(|digit| digit == b'0' + kind) {
-            kept.push(kind);
-            kept.extend((payload.len() as u32).to_le_bytes());
-            kept.extend(payload);
-        }
-    }
-    output(&kept)
 }
 
 /// Every trial's answer, in order, with the table of what occurred.
