@@ -3,7 +3,7 @@ use mathlib.Core.Path.{_≡_, refl}
 use Prim.Native.Nat.{ℕ, zero, suc, _-_, _<_, _≤_}
 use native.Mathlib.Omega.{arith}
 use Rattle.machine.specs.State.{State}
-use Rattle.machine.specs.Calls.{Out, runOf, backOf}
+use Rattle.runner.specs.Calls.{Out, runOf, backOf}
 use Rattle.bench.specs.declared.rounds.Tally.{Tally}
 use Rattle.bench.specs.Rounds.{toldOf, forwardOf, returnOf, talliedFrom}
 

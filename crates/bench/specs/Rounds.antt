@@ -2,8 +2,9 @@
 use mathlib.Core.List.{List, [], _∷_}
 use Prim.Native.Nat.{ℕ, zero, suc, _+_, _*_, _%_, _^_}
 use Rattle.machine.specs.State.{State}
-use Rattle.machine.specs.Calls.{Out, saidOf, runOf, backOf}
-use Rattle.machine.specs.declared.Ran.{Ran}
+use Rattle.runner.specs.Calls.{Out, runOf, backOf}
+use Rattle.machine.specs.Stops.{saidOf}
+use Rattle.runner.specs.declared.Ran.{Ran}
 use Rattle.bench.specs.declared.rounds.Tally.{Tally}
 
 -- X becomes X*31 + register, modulo 2^32, over the registers in order

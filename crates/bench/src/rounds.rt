@@ -3,7 +3,7 @@ ghost use mathlib.Core.Path.{_≡_};
 ghost use Rattle.machine.specs.State.{stateOf};
 ghost use Rattle.bench.specs.Rounds.{sumFrom, noneYet, addedUp, talliedFrom};
 use machine::Machine;
-use machine::Ran;
+use runner::Ran;
 
 // How far a round goes forward.
 const BUDGET: u64 = 65536;
@@ -63,8 +63,8 @@ pub(crate) fn go_round(
     };
     let mut left = times;
     while 0 < left {
-        let ran = machine::run(state, cells, journal, BUDGET);
-        let returned = machine::back(ran.machine, cells, journal, number);
+        let ran = runner::run(state, cells, journal, BUDGET);
+        let returned = runner::back(ran.machine, cells, journal, number);
         told = add_up(told, ran, returned.count);
         state = returned.machine;
         left -= 1;

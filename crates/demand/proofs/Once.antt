@@ -24,11 +24,12 @@ use Rattle.effect.specs.declared.Settings.{Settings}
 use Rattle.effect.specs.declared.execute.Considered.{Considered}
 use Rattle.effect.specs.Inner.{atLength, consideredOf}
 use Rattle.machine.specs.declared.Machine.{Machine}
-use Rattle.machine.specs.declared.Ran.{Ran}
+use Rattle.runner.specs.declared.Ran.{Ran}
 use Rattle.machine.specs.declared.Stop.{Stop}
 use Rattle.machine.specs.State.{freshMachine, stateOf}
-use Rattle.machine.specs.Calls.{saidOf, outOf, runOf, backOf}
-use Rattle.machine.proofs.Named as machine
+use Rattle.machine.specs.Stops.{saidOf}
+use Rattle.runner.specs.Calls.{outOf, runOf, backOf}
+use Rattle.runner.proofs.Named as machine
 use Rattle.job.specs.declared.Refusal.{Refusal}
 use Rattle.job.specs.declared.Answer.{Answer}
 use Rattle.job.specs.declared.Answer.the-variants.{Done, Refused}

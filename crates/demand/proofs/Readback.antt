@@ -15,8 +15,7 @@ use borrow.Author.Tests.{eqb-true, eqb-false, le-leb, lt-leb, lt-ltb, le-ltb, eq
 use Rattle.effect.specs.declared.Settings.{Settings}
 use Rattle.effect.specs.Inner.{InRange}
 use Rattle.effect.proofs.Safe.{picked}
-use Rattle.machine.specs.State.{mostCells, freshSettings}
-use Rattle.machine.specs.Calls.{badSettings}
+use Rattle.machine.specs.State.{mostCells, freshSettings, badSettings}
 use Rattle.job.specs.Job.{littleOf, bytesOf, numberAt, kindBy, knownOf, fitsOf, endsOf, baseOf, countOf, wordsOf, cellsIn, registerOf, valueOf, settingsIn, sizeOf, kindOf, payloadOf, pastOf, inOrder, withinOf, settledIn, passed, courseOf, refusalFrom, Content, contentOf, contentFrom}
 use Rattle.job.specs.Saving.{recordOf, wordBytes, runOf, runsFrom, valueRecord, valuesFrom, freshOf, setupOf}
 use Rattle.job.proofs.Numbers.{bound, take-bytes, drop-bytes, little-bytes}

@@ -18,7 +18,7 @@ use Rattle.line.specs.declared.ReadLine.the-variants.{Cell, NoLine}
 use Rattle.line.specs.Line as line
 use Rattle.effect.proofs.Safe.{picked}
 use Rattle.machine.specs.declared.Machine.{Machine}
-use Rattle.machine.specs.Calls.{badCells, badSettings}
+use Rattle.machine.specs.State.{badCells, badSettings}
 use Rattle.job.specs.Job.{Course, refused, last, onward, Said, refusalFrom, refusalIn, loadedBy, loadOf, courseOf, payloadCourse, kindOf, sizeOf, payloadOf, knownOf, fitsOf, inOrder, withinOf, settledIn, endsOf, pastOf, passed, followed, endOf, nothingYet}
 use Rattle.job.specs.Saving.{Save, savedOf, saveOf, storedOf}
 use Rattle.demand.specs.Demands.{listed, encodeSays, printSays, readSays, loadSays, saveSays}

@@ -12,11 +12,10 @@ use lib.Seq.{sets, sets-eq, take-append-seam}
 use borrow.Author.Tests.{ltb-false, ne-eqb, le-ltb}
 use Rattle.effect.specs.Inner.{InRange}
 use Rattle.machine.specs.declared.Machine.{Machine}
-use Rattle.machine.specs.State.{mostCells}
-use Rattle.machine.specs.Calls.{badCells, badSettings}
+use Rattle.machine.specs.State.{mostCells, badCells, badSettings}
 use Rattle.job.specs.Job.{nothingYet, Content, unnamed, refusalIn, loadOf}
 use Rattle.job.specs.Saving.{recordOf, runsFrom, valuesFrom, setupOf, savedOf, Save, unsaved, saveOf}
-use Rattle.job.proofs.Loading.{not-above}
+use Rattle.machine.proofs.Checks.{not-above}
 use Rattle.job.proofs.Lawful.{in-range}
 use Rattle.demand.specs.Reload.{Held, Saveable, reloaded}
 use Rattle.demand.proofs.Readback.{Reads, reads-end, reads-setup, reads-values, reads-runs}

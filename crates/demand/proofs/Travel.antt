@@ -13,13 +13,15 @@ use lib.ListN.{length, take}
 use borrow.Author.Tests.{eq-eqb, ne-eqb, eqb-true, eqb-false}
 use Rattle.effect.specs.declared.Effect.{Effect}
 use Rattle.machine.specs.State.{State, mostCells, capacityOf}
-use Rattle.machine.specs.Journal.{applyOf, lastOf, damagedOf, undoOf}
-use Rattle.machine.specs.Calls.{Said, plainly, Course, going, stopped, refused, effectIn, refusalOf, moved, stepOf, Out, stopAt, onward, runFrom, backFrom, checkOf, called, backOf}
-use Rattle.machine.proofs.Steps.{room}
-use Rattle.machine.proofs.Keeps.{clear, Lawful, formed-in, lawful-after}
-use Rattle.machine.proofs.Entry.{Room, withJournal, intact-with, undo-with, up-to, last-known, earlier-known, lengths}
-use Rattle.machine.proofs.Counts.{done, course-done}
-use Rattle.machine.proofs.Checks.{passes}
+use Rattle.runner.specs.Journal.{applyOf, lastOf, damagedOf, undoOf}
+use Rattle.machine.specs.Stops.{Said, plainly}
+use Rattle.runner.specs.Calls.{Course, going, stopped, refused, effectIn, refusalOf, moved, stepOf, Out, stopAt, onward, runFrom, backFrom, checkOf, called, backOf}
+use Rattle.runner.proofs.Steps.{room}
+use Rattle.runner.proofs.Keeps.{clear, formed-in, lawful-after}
+use Rattle.machine.proofs.Lawful.{Lawful}
+use Rattle.runner.proofs.Entry.{Room, withJournal, intact-with, undo-with, up-to, last-known, earlier-known, lengths}
+use Rattle.runner.proofs.Counts.{done, course-done}
+use Rattle.runner.proofs.Checks.{passes}
 use Rattle.demand.specs.Journey.{Call, Step, Run, Back, Trip, setOut, forward, call, travel, steps, seen, Arrived}
 
 -- the check of a call on s

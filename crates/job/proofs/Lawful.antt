@@ -14,15 +14,14 @@ use Rattle.effect.specs.declared.Settings.{Settings}
 use Rattle.effect.specs.Operands.{flagsBound}
 use Rattle.effect.specs.Inner.{InRange}
 use Rattle.effect.proofs.Safe.{picked, or-left, or-right}
-use Rattle.machine.specs.State.{mostCells, stateOf}
-use Rattle.machine.specs.Calls.{badCells, badSettings}
-use Rattle.machine.proofs.Keeps.{Words, set-words, Lawful}
+use Rattle.machine.specs.State.{mostCells, stateOf, badCells, badSettings}
+use Rattle.machine.proofs.Lawful.{Words, set-words, Lawful}
 use Rattle.job.specs.declared.records.Kind.{Kind}
 use Rattle.job.specs.declared.records.Kind.the-variants.{Run, Register, Setup, End, Other}
 use Rattle.job.specs.declared.records.Past.{Past}
 use Rattle.job.specs.Job.{wordsOf, cellsIn, baseOf, countOf, registerOf, valueOf, settingsIn, knownOf, fitsOf, endsOf, sizeOf, kindOf, payloadOf, inOrder, withinOf, settledIn, pastOf, nothingYet, Course, refused, last, onward, passed, courseOf, Said, refusedAt, endOf, followed, refusalFrom, refusalIn, Content, contentOf, contentFrom, unnamed, loadedBy, loadOf}
 use Rattle.job.proofs.Numbers.{Bytes, bytes-drop, bytes-take, below-4}
-use Rattle.job.proofs.Loading.{not-above}
+use Rattle.machine.proofs.Checks.{not-above}
 use Rattle.job.proofs.Walk.{passing}
 
 -- what the records so far have made

@@ -10,22 +10,12 @@ use lib.ListN.{length}
 use borrow.Author.Tests.{ltb-false}
 use Rattle.effect.proofs.Safe.{or-right}
 use Rattle.machine.specs.declared.Machine.{Machine}
-use Rattle.machine.specs.State.{mostCells, freshMachine}
-use Rattle.machine.specs.Calls.{badCells}
+use Rattle.machine.specs.State.{mostCells, freshMachine, badCells}
 use Rattle.job.specs.declared.Refusal.{Refusal}
 use Rattle.job.specs.declared.Answer.{Answer}
 use Rattle.job.specs.declared.Answer.the-variants.{Done, Refused}
 use Rattle.job.specs.Job.{nothingYet, refusalFrom, Content, contentFrom, unnamed, saidOf, loadedWith, refusalIn, loadOf}
 use Rattle.job.specs.Inner.{refusalOf}
-
--- a test that was made the other way round
-pub turned : (t b : Bool) (r : Bool) → r ≡ not t → not r ≡ b → t ≡ b
-turned true b r e h = rw e at h
-turned false b r e h = rw e at h
-
--- M is not above the most
-pub not-above : (m : ℕ) → badCells m ≡ false → m ≤ mostCells
-not-above m h = ltb-false mostCells m (or-right (eqb m 0) (ltb mostCells m) h)
 
 unfolded : (job cells : List ℕ) → badCells (length cells) ≡ false → refusalIn (length cells) job ≡ refusalFrom (length job) (length cells) job 0 nothingYet
 unfolding refusalIn

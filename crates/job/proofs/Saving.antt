@@ -9,7 +9,7 @@ use lib.ListN.{length}
 use lib.Seq.{sets}
 use borrow.Author.Tests.{lt-ltb, le-ltb}
 use Rattle.machine.specs.declared.Machine.{Machine}
-use Rattle.machine.specs.Calls.{badCells, badSettings}
+use Rattle.machine.specs.State.{badCells, badSettings}
 use Rattle.job.specs.Saving.{savedOf, Save, unsaved, saveOf}
 use Rattle.job.specs.Inner.{Stored}
 

@@ -9,8 +9,7 @@ use lib.ListN.{length, set, take, drop, replicate}
 use lib.Seq.{sets}
 use Rattle.effect.specs.declared.Settings.{Settings}
 use Rattle.machine.specs.declared.Machine.{Machine}
-use Rattle.machine.specs.State.{freshSettings, freshMachine}
-use Rattle.machine.specs.Calls.{badCells, badSettings}
+use Rattle.machine.specs.State.{freshSettings, freshMachine, badCells, badSettings}
 use Rattle.job.specs.declared.Refusal.{Refusal}
 use Rattle.job.specs.declared.Refusal.the-variants.{Unsettled, Cells, Short, Unknown, Length, Cut, Space, Order, After, Room}
 use Rattle.job.specs.declared.Answer.{Answer}

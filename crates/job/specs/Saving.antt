@@ -8,8 +8,7 @@ use lib.ListN.{length}
 use lib.Seq.{sets}
 use Rattle.effect.specs.declared.Settings.{Settings}
 use Rattle.machine.specs.declared.Machine.{Machine}
-use Rattle.machine.specs.State.{freshSettings}
-use Rattle.machine.specs.Calls.{badCells, badSettings}
+use Rattle.machine.specs.State.{freshSettings, badCells, badSettings}
 use Rattle.job.specs.declared.Saved.{Saved}
 use Rattle.job.specs.declared.Saved.the-variants.{Written, Unsaved}
 use Rattle.job.specs.Job.{bytesOf, numberOf}

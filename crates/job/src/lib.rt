@@ -1,8 +1,5 @@
 // Jobs: a machine and its cells as records of bytes, loaded and saved.
 ghost use mathlib.Core.Path.{_≡_};
-ghost use mathlib.Core.Bool.{not};
-ghost use lib.ListN.{length};
-ghost use Rattle.machine.specs.Calls.{badCells};
 ghost use Rattle.job.specs.Job.{numberOf, loadOf, loadWith};
 ghost use Rattle.job.specs.Saving.{saveOf, saveWith};
 
@@ -12,10 +9,11 @@ mod records;
 mod writing;
 
 use machine::Machine;
+use machine::enough_cells;
+use machine::in_range;
 use reading::carry_out;
 use reading::clear;
 use reading::examine;
-use records::in_range;
 use writing::put_job;
 
 // Why a load or a save is refused: 10, 12 and 41 to 48, in this order.
@@ -68,19 +66,6 @@ pub struct Loaded {
 pub enum Saved {
     Written(usize),
     Unsaved(Refusal),
-}
-
-// Whether M is 1 to 16,384.
-fn enough_cells(m: usize) -> bool
-    ensures { λ r. ⌜ r ≡ not (badCells m) ⌝ }
-{
-    if m == 0 {
-        return false;
-    }
-    if Machine::MOST_CELLS < m {
-        return false;
-    }
-    true
 }
 
 // A job into the cells that the host lends: the machine and the cells that it holds, or the first refusal with nothing written.

@@ -1,12 +1,12 @@
 // The rules of a record: which kinds are known, their lengths, their order, and the space that a base has.
 ghost use mathlib.Core.Path.{_≡_};
-ghost use mathlib.Core.Bool.{true, not};
+ghost use mathlib.Core.Bool.{true};
 ghost use Prim.Native.Nat.{_≤_, _+_, _^_, _<_};
 ghost use lib.ListN.{length};
-ghost use Rattle.machine.specs.Calls.{badSettings};
 ghost use Rattle.job.specs.Job.{kindBy, knownOf, fitsOf, endsOf, rankOf, pastOf, inOrder, risesOf, baseOf, countOf, withinOf, settledIn, settingsIn};
 use crate::little::number;
 use effect::Settings;
+use machine::in_range;
 
 // A record's kind: 1 to 4, or any other.
 pub(crate) enum Kind {
@@ -156,22 +156,6 @@ pub(crate) fn settings_in(payload: &[u8]) -> Settings
         mask: number(payload, 2, 2),
         mode: number(payload, 4, 1),
     }
-}
-
-// Whether settings are in range.
-pub(crate) fn in_range(s: Settings) -> bool
-    ensures { λ r. ⌜ r ≡ not (badSettings s) ⌝ }
-{
-    if Settings::FLAGS_BOUND <= s.flags {
-        return false;
-    }
-    if Settings::FLAGS_BOUND <= s.mask {
-        return false;
-    }
-    if Settings::MODE_BOUND <= s.mode {
-        return false;
-    }
-    true
 }
 
 // Whether a record's settings are in range.

@@ -1,87 +1,18 @@
--- What the check at the start of a call makes of the call.
+-- What the answers on M and on settings show.
 -- Assumes nothing.
 use Prim.Native.Nat.{ℕ, _≤_}
-use mathlib.Core.Path.{_≡_, refl, sym}
-use mathlib.Core.Bool.{_||_}
-use mathlib.Core.Option.{Option, none, some}
-use mathlib.Core.List.{List}
-use native.Mathlib.Omega.{arith}
-use lib.Dec.{leb, ltb, eqb}
-use lib.ListN.{length}
-use borrow.Author.Tests.{leb-false, ltb-false, eqb-false, lt-leb, le-ltb, ne-eqb}
-use Rattle.effect.specs.declared.Settings.{Settings}
-use Rattle.machine.specs.State.{State, mostCells, capacityOf}
-use Rattle.effect.specs.Operands.{flagsBound}
-use Rattle.machine.specs.Calls.{Said, plainly, Out, stopAt, badCells, badSettings, checkOf, called, callOf}
-use Rattle.machine.specs.declared.Checked.{Checked}
-use Rattle.effect.specs.Inner.{InRange}
-use Rattle.machine.specs.Inner.{saidBy, checkedOf}
-use Rattle.effect.proofs.Safe.{or-left, or-right}
-use Rattle.machine.proofs.Keeps.{past}
+use mathlib.Core.Path.{_≡_}
+use mathlib.Core.Bool.{Bool, true, false, not}
+use lib.Dec.{ltb, eqb}
+use borrow.Author.Tests.{ltb-false}
+use Rattle.effect.proofs.Safe.{or-right}
+use Rattle.machine.specs.State.{mostCells, badCells}
 
-none-said : (o : Option ℕ) → saidBy o ≡ none → o ≡ none
-none-said none h = refl
-none-said (some k) h = let z : _≡_ {A = ℕ} 0 1 = cc in absurd (omega arith)
+-- a test that was made the other way round
+pub turned : (t b : Bool) (r : Bool) → r ≡ not t → not r ≡ b → t ≡ b
+turned true b r e h = rw e at h
+turned false b r e h = rw e at h
 
-fine-by : (body : ℕ → ℕ → State → Out) (n : ℕ) (s : State) (o : Option ℕ) → none ≡ saidBy o → body n 0 s ≡ called o body n s
-fine-by body n s o h = rw (none-said o (sym h))
-
-bad-by : (body : ℕ → ℕ → State → Out) (n : ℕ) (s : State) (o : Option ℕ) (x : Said) → some x ≡ saidBy o → stopAt x 0 s ≡ called o body n s
-bad-by body n s none x h = let z : _≡_ {A = ℕ} 0 1 = cc in absurd (omega arith)
-bad-by body n s (some k) x h = let e : x ≡ plainly k = cc in rw e
-
--- the check of a call on s
-abbrev check : State → Option ℕ
-check s = checkOf (length (s .cells)) (s .settings) (capacityOf (s .journal)) (s .depth)
-
-module _ (body : ℕ → ℕ → State → Out) (n : ℕ) (s : State) where
-  pub called-fine : none ≡ saidBy (check s) → body n 0 s ≡ callOf body n s
-  called-fine h = fine-by body n s (check s) h
-
-  pub called-bad : (x : Said) → some x ≡ saidBy (check s) → stopAt x 0 s ≡ callOf body n s
-  called-bad x h = bad-by body n s (check s) x h
-
-pub record Passed (m : ℕ) (s : Settings) (j depth : ℕ) : Type 0 where
-  pub some-cells : 1 ≤ m
-  pub few-cells : m ≤ mostCells
-  pub settled : InRange s
-  pub room : depth ≤ j
-
-pub checked : (m : ℕ) (s : Settings) (j depth : ℕ) → none ≡ saidBy (checkOf m s j depth) → Passed m s j depth
-unfolding checkOf
-checked m s j depth h =
-    let a = past (badCells m) 12 _ (none-said _ (sym h)) in
-    let b = past (badSettings s) 10 _ (a .1) in
-    let c = past (ltb j depth) 11 _ (b .1) in
-    let fl = leb flagsBound (s .flags) in
-    let ma = leb flagsBound (s .mask) in
-    let mo = leb 4 (s .mode) in
-    let not-zero = eqb-false m 0 (or-left (eqb m 0) _ (a .0)) in
-    record {
-      some-cells = omega arith;
-      few-cells = ltb-false mostCells m (or-right (eqb m 0) _ (a .0));
-      settled = record {
-        flags = leb-false flagsBound (s .flags) (or-left fl ma (or-left (fl || ma) mo (b .0)));
-        mask = leb-false flagsBound (s .mask) (or-right fl ma (or-left (fl || ma) mo (b .0)));
-        mode = leb-false 4 (s .mode) (or-right (fl || ma) mo (b .0));
-      };
-      room = ltb-false j depth (c .0);
-    }
-
--- the answer's case is known, and J with it
-pub as-told : (r v : Checked) (m : ℕ) (s : Settings) (j depth : ℕ) (journal : List ℕ) → j ≡ capacityOf journal → r ≡ v → checkedOf r ≡ saidBy (checkOf m s j depth)
-    → checkedOf v ≡ saidBy (checkOf m s (capacityOf journal) depth)
-as-told r v m s j depth journal e p h = rw (← e, ← p) h
-
--- a call on M cells from 1 to 16,384, settings in range and depth at most J is not refused at once
-pub passes : (m : ℕ) (s : Settings) (j depth : ℕ) → Passed m s j depth → checkOf m s j depth ≡ none
-unfolding checkOf
-passes m s j depth p =
-    rw (
-      ne-eqb m 0 (λ e. omega (arith, p .some-cells)),
-      le-ltb mostCells m (p .few-cells),
-      lt-leb flagsBound (s .flags) (p .settled .flags),
-      lt-leb flagsBound (s .mask) (p .settled .mask),
-      lt-leb 4 (s .mode) (p .settled .mode),
-      le-ltb j depth (p .room),
-    )
+-- M is not above the most
+pub not-above : (m : ℕ) → badCells m ≡ false → m ≤ mostCells
+not-above m h = ltb-false mostCells m (or-right (eqb m 0) (ltb mostCells m) h)

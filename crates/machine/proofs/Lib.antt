@@ -1,12 +1,4 @@
-pub mod Lists
 pub mod Parts
-pub mod Words
-pub mod Damage
-pub mod Steps
-pub mod Keeps
-pub mod Turns
-pub mod Checks
-pub mod Returns
-pub mod Entry
-pub mod Counts
+pub mod Lawful
 pub mod Named
+pub mod Checks

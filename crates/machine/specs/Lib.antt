@@ -1,4 +1,3 @@
 pub mod State
-pub mod Journal
-pub mod Calls
+pub mod Stops
 pub mod Inner

@@ -1,8 +1,11 @@
 -- What can be seen of a machine with its cells and journal: document 01, 'The machine and its boundary'.
 use Prim.Native.Nat.{ℕ, _/_, min}
+use mathlib.Core.Bool.{Bool, _||_}
 use mathlib.Core.List.{List}
+use lib.Dec.{leb, ltb, eqb}
 use lib.ListN.{replicate, length}
 use Rattle.effect.specs.declared.Settings.{Settings}
+use Rattle.effect.specs.Operands.{flagsBound}
 use Rattle.machine.specs.declared.Machine.{Machine}
 
 -- Registers 0 to 255 hold 32 bits; register 255 is PC. The host lends M cells of 32 bits and a journal of 32-bit words.
@@ -32,3 +35,10 @@ mostCells = 16384
 -- J is the lesser of 65,536 and the journal's length divided by 8, rounded down.
 unfoldable pub capacityOf : List ℕ → ℕ
 capacityOf journal = min 65536 (length journal / 8)
+
+-- 12: M is 0 or above 16,384. 10: flags or mask above 511, mode above 3. 11: depth above J.
+abbrev pub badCells : ℕ → Bool
+badCells m = eqb m 0 || ltb mostCells m
+
+abbrev pub badSettings : Settings → Bool
+badSettings s = leb flagsBound (s .flags) || leb flagsBound (s .mask) || leb 4 (s .mode)

@@ -1,20 +1,9 @@
-// The machine: 256 registers, settings and depth by value, over cells and a journal that the host lends.
+// The machine by value, 256 registers, settings and depth; what a call can say; and what a call and a job ask of M and of settings.
 ghost use mathlib.Core.Path.{_≡_};
-ghost use Prim.Native.Nat.{_≤_};
-ghost use Rattle.machine.specs.State.{freshMachine, stateOf, capacityOf};
-ghost use Rattle.machine.specs.Calls.{saidOf, checkOf, outOf, runFrom, backFrom, runOf, backOf};
-ghost use Rattle.machine.specs.Inner.{Ready, checkedOf, saidBy};
-
-mod carry;
-mod journal;
-mod turn;
-mod undo;
-
+ghost use mathlib.Core.Bool.{not};
+ghost use Rattle.machine.specs.State.{freshMachine, badCells, badSettings};
+ghost use Rattle.machine.specs.Stops.{saidOf};
 use effect::Settings;
-use turn::Verdict;
-use turn::advance;
-use undo::Returned;
-use undo::take_back;
 
 pub struct Machine {
     pub regs: [u32; 256],
@@ -84,170 +73,31 @@ impl Stop {
     }
 }
 
-// What a call leaves beside cells and journal.
-pub struct Ran {
-    pub machine: Machine,
-    pub stop: Stop,
-    pub count: u64,
-}
-
-// Whether a call can begin: it can, or stop 12, 10 or 11.
-enum Checked {
-    Fine,
-    Bad(Stop),
-}
-
-// J: the lesser of 65,536 and the journal's length divided by 8.
-fn capacity(journal: &[u32]) -> u32
-    ensures { λ r. ⌜ r ≡ capacityOf (now (journal .entry)) ⌝ }
+// Whether M is 1 to 16,384.
+pub fn enough_cells(m: usize) -> bool
+    ensures { λ r. ⌜ r ≡ not (badCells m) ⌝ }
 {
-    let entries = journal.len() / 8;
-    if entries < Machine::MOST_ENTRIES as usize {
-        entries as u32
-    } else {
-        Machine::MOST_ENTRIES
+    if m == 0 {
+        return false;
     }
+    if Machine::MOST_CELLS < m {
+        return false;
+    }
+    true
 }
 
-// Once a call: 12, 10, 11.
-fn check(size: usize, s: Settings, most: u32, depth: u32) -> Checked
-    ensures { λ r. ⌜ checkedOf r ≡ saidBy (checkOf size s most depth) ⌝ }
+// Whether settings are in range.
+pub fn in_range(s: Settings) -> bool
+    ensures { λ r. ⌜ r ≡ not (badSettings s) ⌝ }
 {
-    if size == 0 {
-        return Checked::Bad(Stop::Cells);
-    }
-    if Machine::MOST_CELLS < size {
-        return Checked::Bad(Stop::Cells);
-    }
     if Settings::FLAGS_BOUND <= s.flags {
-        return Checked::Bad(Stop::Unsettled);
+        return false;
     }
     if Settings::FLAGS_BOUND <= s.mask {
-        return Checked::Bad(Stop::Unsettled);
+        return false;
     }
     if Settings::MODE_BOUND <= s.mode {
-        return Checked::Bad(Stop::Unsettled);
+        return false;
     }
-    if most < depth {
-        return Checked::Bad(Stop::Deep);
-    }
-    Checked::Fine
-}
-
-// As many steps as the budget says, or up to a stop. The registers are copied out once and put back once.
-fn run_on(m: Machine, cells: &mut [u32], journal: &mut [u32], budget: u64) -> Ran
-    requires { ⌜ Ready (m .settings) (m .depth) (now journal) ⌝ }
-    ensures { λ r. ⌜ outOf r (now (cells .exit)) (now (journal .exit)) ≡ runFrom budget 0 (stateOf m (now (cells .entry)) (now (journal .entry))) ⌝ }
-{
-    let mut regs = m.regs;
-    let mut settings = m.settings;
-    let mut depth = m.depth;
-    let mut done: u64 = 0;
-    let mut stop = Stop::Done;
-    let most = capacity(journal);
-    while done < budget {
-        let step = advance(&mut regs, settings, depth, cells, journal, most);
-        settings = step.settings;
-        depth = step.depth;
-        let verdict = step.verdict;
-        match verdict {
-            Verdict::Going => {
-                done = done + 1;
-            }
-            Verdict::Stopped(named) => {
-                stop = named;
-                done = done + 1;
-                break;
-            }
-            Verdict::Refused(named) => {
-                stop = named;
-                break;
-            }
-        }
-    }
-    Ran {
-        machine: Machine {
-            regs,
-            settings,
-            depth,
-        },
-        stop,
-        count: done,
-    }
-}
-
-// As many steps back as the number says, or up to a stop. The journal is not written.
-fn back_on(m: Machine, cells: &mut [u32], journal: &[u32], number: u64) -> Ran
-    requires { ⌜ m .depth ≤ capacityOf (now journal) ⌝ }
-    ensures { λ r. ⌜ outOf r (now (cells .exit)) (now (journal .entry)) ≡ backFrom number 0 (stateOf m (now (cells .entry)) (now (journal .entry))) ⌝ }
-{
-    let mut regs = m.regs;
-    let mut settings = m.settings;
-    let mut depth = m.depth;
-    let mut undone: u64 = 0;
-    let mut stop = Stop::Done;
-    while undone < number {
-        let returned = take_back(&mut regs, settings, depth, cells, journal);
-        match returned {
-            Returned::Back(before) => {
-                settings = before;
-                depth = depth - 1;
-                undone = undone + 1;
-            }
-            Returned::Start => {
-                stop = Stop::Start;
-                break;
-            }
-            Returned::Damaged => {
-                stop = Stop::Damaged;
-                break;
-            }
-        }
-    }
-    Ran {
-        machine: Machine {
-            regs,
-            settings,
-            depth,
-        },
-        stop,
-        count: undone,
-    }
-}
-
-// A run of a budget: the step repeated until the budget is done or a stop is named.
-pub fn run(m: Machine, cells: &mut [u32], journal: &mut [u32], budget: u64) -> Ran
-    ensures { λ r. ⌜ outOf r (now (cells .exit)) (now (journal .exit)) ≡ runOf budget (stateOf m (now (cells .entry)) (now (journal .entry))) ⌝ }
-{
-    let checked = check(cells.len(), m.settings, capacity(journal), m.depth);
-    match checked {
-        Checked::Fine => run_on(m, cells, journal, budget),
-        Checked::Bad(stop) => Ran {
-            machine: m,
-            stop,
-            count: 0,
-        },
-    }
-}
-
-// A step is a run of budget 1.
-pub fn step(m: Machine, cells: &mut [u32], journal: &mut [u32]) -> Ran
-    ensures { λ r. ⌜ outOf r (now (cells .exit)) (now (journal .exit)) ≡ runOf 1 (stateOf m (now (cells .entry)) (now (journal .entry))) ⌝ }
-{
-    run(m, cells, journal, 1)
-}
-
-// Back by a number of steps: the last step taken back until the number is done or a stop is named.
-pub fn back(m: Machine, cells: &mut [u32], journal: &[u32], number: u64) -> Ran
-    ensures { λ r. ⌜ outOf r (now (cells .exit)) (now (journal .entry)) ≡ backOf number (stateOf m (now (cells .entry)) (now (journal .entry))) ⌝ }
-{
-    let checked = check(cells.len(), m.settings, capacity(journal), m.depth);
-    match checked {
-        Checked::Fine => back_on(m, cells, journal, number),
-        Checked::Bad(stop) => Ran {
-            machine: m,
-            stop,
-            count: 0,
-        },
-    }
+    true
 }

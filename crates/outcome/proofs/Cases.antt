@@ -7,7 +7,7 @@ use borrow.Author.Tests.{lt-ltb, le-ltb}
 use lib.Dec.{eqb}
 use lib.ListN.{length}
 use Rattle.machine.specs.State.{stateOf}
-use Rattle.machine.specs.Calls.{runOf}
+use Rattle.runner.specs.Calls.{runOf}
 use Rattle.job.specs.declared.Loaded.{Loaded}
 use Rattle.job.specs.declared.Answer.the-variants.{Done, Refused}
 use Rattle.job.specs.declared.Refusal.{Refusal}

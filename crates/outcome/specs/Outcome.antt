@@ -7,7 +7,7 @@ use lib.Dec.{ltb, eqb}
 use lib.ListN.{length, take, replicate}
 use Rattle.effect.specs.Operands.{pcOf}
 use Rattle.machine.specs.State.{stateOf}
-use Rattle.machine.specs.Calls.{Out, runOf}
+use Rattle.runner.specs.Calls.{Out, runOf}
 use Rattle.job.specs.Job.{Load, loadOf}
 use Rattle.text.specs.Text.{bytes, named, Added}
 

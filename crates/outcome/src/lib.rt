@@ -2,11 +2,11 @@
 ghost use mathlib.Core.Path.{_≡_};
 ghost use Prim.Native.Nat.{_≤_, _<_};
 ghost use lib.ListN.{length, take};
-ghost use Rattle.machine.specs.Calls.{saidOf};
+ghost use Rattle.machine.specs.Stops.{saidOf};
 ghost use Rattle.text.specs.Text.{Added};
 ghost use Rattle.outcome.specs.Outcome.{refusedText, exitText, registerText, registersText, ranText, outcomeOf, Told, Leaves};
 use job::Answer;
-use machine::Ran;
+use runner::Ran;
 use text::put;
 use text::put_number;
 
@@ -102,7 +102,7 @@ pub fn run_job(
     match answer {
         Answer::Refused { why, offset } => put_refused(text, at, why.number(), offset as u64),
         Answer::Done => {
-            let ran = machine::run(loaded.machine, cells, journal, BUDGET);
+            let ran = runner::run(loaded.machine, cells, journal, BUDGET);
             put_ran(text, at, ran)
         }
     }

@@ -5,7 +5,7 @@ use Prim.Native.Nat.{ℕ, zero, suc, _+_, _-_, _<_, _≤_}
 use native.Mathlib.Omega.{arith}
 use lib.ListN.{getD}
 use Rattle.machine.specs.State.{State}
-use Rattle.machine.specs.Calls.{Out}
+use Rattle.runner.specs.Calls.{Out}
 use Rattle.text.specs.Text.{Added}
 use Rattle.trials.specs.Payload.{longAt}
 use Rattle.trials.specs.Calls.{ranText, callBy, callsText}

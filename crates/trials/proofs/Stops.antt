@@ -8,7 +8,7 @@ use denote.Enum.Declared.{tagOf}
 use Rattle.machine.proofs.Stop.{the-type}
 use Rattle.machine.specs.declared.Stop.{Stop}
 use Rattle.machine.specs.declared.Stop.the-variants.{Done, Ended, Trap, Int, Fetch, Fault, Float, Full, Start, Damaged, Unsettled, Deep, Cells}
-use Rattle.machine.specs.Calls.{plainly, saidOf}
+use Rattle.machine.specs.Stops.{plainly, saidOf}
 
 abbrev others : List ℕ
 others = 0 ∷ 1 ∷ 2 ∷ 4 ∷ 5 ∷ 6 ∷ 7 ∷ 8 ∷ 9 ∷ 10 ∷ 11 ∷ 12 ∷ []

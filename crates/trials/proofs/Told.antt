@@ -10,7 +10,7 @@ use lib.Seq.{length-sets}
 use borrow.Author.Tests.{ltb-false}
 use Rattle.effect.proofs.Safe.{picked}
 use Rattle.machine.specs.declared.Machine.{Machine}
-use Rattle.machine.specs.Calls.{badCells, badSettings}
+use Rattle.machine.specs.State.{badCells, badSettings}
 use Rattle.job.specs.declared.Refusal.{Refusal}
 use Rattle.job.specs.declared.Answer.the-variants.{Refused}
 use Rattle.job.specs.declared.Saved.{Saved}

@@ -5,7 +5,8 @@ use Prim.Native.Nat.{ℕ, zero, suc, _+_}
 use lib.Dec.{eqb}
 use lib.ListN.{getD}
 use Rattle.machine.specs.State.{State, stateOf}
-use Rattle.machine.specs.Calls.{Said, Out, runOf, backOf}
+use Rattle.machine.specs.Stops.{Said}
+use Rattle.runner.specs.Calls.{Out, runOf, backOf}
 use Rattle.text.specs.Text.{bytes, named}
 use Rattle.trials.specs.declared.calls.Told.{Told}
 use Rattle.trials.specs.Payload.{halfAt, longAt}

@@ -2,7 +2,8 @@
 ghost use mathlib.Core.Path.{_≡_};
 ghost use Prim.Native.Nat.{_≤_, _<_, _^_};
 ghost use lib.ListN.{length};
-ghost use Rattle.machine.specs.Calls.{saidOf, outOf};
+ghost use Rattle.machine.specs.Stops.{saidOf};
+ghost use Rattle.runner.specs.Calls.{outOf};
 ghost use Rattle.machine.specs.State.{stateOf};
 ghost use Rattle.text.specs.Text.{Added};
 ghost use Rattle.trials.specs.Calls.{toldOf, stopText, ranText, callBy, callsText, callsAnswer};
@@ -15,7 +16,7 @@ use crate::payload::half_at;
 use crate::payload::long_at;
 use crate::wholes::digest;
 use machine::Machine;
-use machine::Ran;
+use runner::Ran;
 use machine::Stop;
 use text::put;
 use text::put_number;
@@ -76,12 +77,12 @@ fn call(m: Machine, cells: &mut [u32], journal: &mut [u32], kind: u8, number: u6
     ensures { λ r. ⌜ outOf r (now (cells .exit)) (now (journal .exit)) ≡ callBy kind number (stateOf m (now (cells .entry)) (now (journal .entry))) ⌝ }
 {
     if kind == 0 {
-        return machine::step(m, cells, journal);
+        return runner::step(m, cells, journal);
     }
     if kind == 1 {
-        return machine::run(m, cells, journal, number);
+        return runner::run(m, cells, journal, number);
     }
-    machine::back(m, cells, journal, number)
+    runner::back(m, cells, journal, number)
 }
 
 // Makes the calls that stand in a payload from a place on, and puts a line for each.

@@ -5,7 +5,8 @@ use mathlib.Core.Option.{none}
 use mathlib.Core.Path.{_≡_}
 use borrow.Author.Needs.{needs}
 use Rattle.job.specs.Job.{nothingYet, refusalFrom}
-use Rattle.job.proofs.Loading.{load-few, turned, load-refused, none-refused, load-done}
+use Rattle.job.proofs.Loading.{load-few, load-refused, none-refused, load-done}
+use Rattle.machine.proofs.Checks.{turned}
 use Rattle.job.proofs.load.Statement.{statement}
 use Rattle.job.proofs.load.Tie as tie
 

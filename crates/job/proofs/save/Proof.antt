@@ -3,7 +3,7 @@
 use mathlib.Core.Path.{ap}
 use lib.ListN.{length}
 use borrow.Author.Needs.{needs}
-use Rattle.job.proofs.Loading.{turned, not-above}
+use Rattle.machine.proofs.Checks.{turned, not-above}
 use Rattle.job.proofs.Saving.{kept, save-few, save-unsettled, save-narrow, save-done}
 use Rattle.job.proofs.save.Statement.{statement}
 use Rattle.job.proofs.save.Tie as tie

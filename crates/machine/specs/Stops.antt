@@ -1,0 +1,28 @@
+-- What a call says at its end: document 01, 'Stops of step, run and back'.
+use Prim.Native.Nat.{ℕ}
+use Rattle.machine.specs.declared.Stop.{Stop}
+use Rattle.machine.specs.declared.Stop.the-variants.{Done, Ended, Trap, Int, Fetch, Fault, Float, Full, Start, Damaged, Unsettled, Deep, Cells}
+
+-- The stop's number; for INT Rn's value and imm, and 0 and 0 for all other stops.
+pub record Said : Type 0 where
+  pub number : ℕ
+  pub value : ℕ
+  pub imm : ℕ
+
+abbrev pub plainly : ℕ → Said
+plainly k = record { number = k; value = 0; imm = 0 }
+
+abbrev pub saidOf : Stop → Said
+saidOf Done = plainly 0
+saidOf Ended = plainly 1
+saidOf Trap = plainly 2
+saidOf (Int value imm) = record { number = 3; value = value; imm = imm }
+saidOf Fetch = plainly 4
+saidOf Fault = plainly 5
+saidOf Float = plainly 6
+saidOf Full = plainly 7
+saidOf Start = plainly 8
+saidOf Damaged = plainly 9
+saidOf Unsettled = plainly 10
+saidOf Deep = plainly 11
+saidOf Cells = plainly 12

@@ -1,0 +1,11 @@
+pub mod Lists
+pub mod Words
+pub mod Damage
+pub mod Steps
+pub mod Keeps
+pub mod Turns
+pub mod Checks
+pub mod Returns
+pub mod Entry
+pub mod Counts
+pub mod Named

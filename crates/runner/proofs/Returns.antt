@@ -1,0 +1,88 @@
+-- What a turn of the loop does to the definition of going back.
+-- Assumes nothing.
+use Prim.Native.Nat.{ℕ, suc, _+_, _-_, _≤_, _<_}
+use mathlib.Core.Path.{_≡_, refl, sym, _∙_}
+use mathlib.Core.Bool.{Bool, true, false, cond}
+use mathlib.Core.Option.{Option, none, some}
+use mathlib.Core.List.{List}
+use native.Mathlib.Nat.{sub-zero}
+use native.Mathlib.Omega.{arith}
+use lib.Dec.{eqb}
+use lib.ListN.{length}
+use borrow.Author.Tests.{eqb-false}
+use Rattle.effect.specs.declared.Settings.{Settings}
+use Rattle.runner.specs.declared.undo.Returned.{Returned}
+use Rattle.machine.specs.State.{State, capacityOf}
+use Rattle.runner.specs.Journal.{lastOf, damagedOf, undoOf}
+use Rattle.machine.specs.Stops.{plainly}
+use Rattle.runner.specs.Calls.{Out, stopAt, backFrom}
+use Rattle.runner.specs.Inner.{Gone, takenBack, returnedOf}
+
+-- after a step back: the rest, or the end
+abbrev homeward : (ℕ → State → Out) → Option ℕ → ℕ → State → Out
+homeward rest none k s = rest (k + 1) s
+homeward rest (some x) k s = stopAt (plainly x) k s
+
+abbrev gone : Bool → Bool → State → Gone
+gone t u s = cond t (record { state = s; stop = some 8 }) (cond u (record { state = s; stop = some 9 }) (record { state = undoOf s; stop = none }))
+
+homeward-by : (t u : Bool) (rest : ℕ → State → Out) (k : ℕ) (s : State)
+    → cond t (stopAt (plainly 8) k s) (cond u (stopAt (plainly 9) k s) (rest (k + 1) (undoOf s))) ≡ homeward rest (gone t u s .stop) k (gone t u s .state)
+homeward-by true u rest k s = refl
+homeward-by false true rest k s = refl
+homeward-by false false rest k s = refl
+
+turn : (n k : ℕ) (s : State) (w : Gone) (o : Option ℕ) → w ≡ takenBack s → w .stop ≡ o → backFrom (suc n) k s ≡ homeward (backFrom n) o k (w .state)
+unfolding backFrom takenBack
+turn n k s w o e p =
+    homeward-by (eqb (s .depth) 0) (damagedOf (length (s .cells)) (lastOf (s .journal) (s .depth))) (backFrom n) k s ∙ rw (← e, p)
+
+-- the answer's case is known
+pub as-told : (r v : Returned) (s : Settings) (depth : ℕ) (regs cells journal : List ℕ) (at : State)
+    → r ≡ v → returnedOf r s depth regs cells journal ≡ takenBack at → returnedOf v s depth regs cells journal ≡ takenBack at
+as-told r v s depth regs cells journal at e h = rw (← e) h
+
+-- a step that was taken back was there
+deep-by : (t u : Bool) (s : State) → gone t u s .stop ≡ none → t ≡ false
+deep-by true u s h = let z : _≡_ {A = ℕ} 0 1 = cc in absurd (omega arith)
+deep-by false u s h = refl
+
+pub deep : (s : State) (w : Gone) → w ≡ takenBack s → w .stop ≡ none → 1 ≤ s .depth
+unfolding takenBack
+deep s w e p =
+    let not-zero = eqb-false (s .depth) 0 (deep-by (eqb (s .depth) 0) (damagedOf (length (s .cells)) (lastOf (s .journal) (s .depth))) s (rw e at p)) in
+    omega arith
+
+left : (b d : ℕ) → d < b → b - d ≡ suc (b - (d + 1))
+left b d h = omega arith
+
+-- Going back that is under way: what is left of it leads where the whole leads.
+pub record Returning (number : ℕ) (from at : State) (done : ℕ) : Type 0 where
+  pub few : done ≤ number
+  pub room : at .depth ≤ capacityOf (at .journal)
+  pub cells : length (at .cells) ≡ length (from .cells)
+  pub rest : backFrom (number - done) done at ≡ backFrom number 0 from
+
+pub turn-round : (number : ℕ) (from : State) → from .depth ≤ capacityOf (from .journal) → Returning number from from 0
+turn-round number from r = record { few = omega arith; room = r; cells = refl; rest = rw sub-zero }
+
+module _ (number : ℕ) (from at : State) (done : ℕ) (u : Returning number from at done) where
+  pub over : number ≤ done → stopAt (plainly 0) done at ≡ backFrom number 0 from
+  unfolding backFrom
+  over h = let z : number - done ≡ 0 = omega (arith, u .few) in sym (rw z refl) ∙ u .rest
+
+  module _ (below : done < number) (w : Gone) (e : w ≡ takenBack at) where
+    one-left : backFrom (suc (number - (done + 1))) done at ≡ backFrom number 0 from
+    one-left = rw (← left number done below) (u .rest)
+
+    pub again : w .stop ≡ none → w .state .depth ≤ at .depth → w .state .journal ≡ at .journal → length (w .state .cells) ≡ length (at .cells)
+        → Returning number from (w .state) (done + 1)
+    again p d j c = record {
+      few = omega arith;
+      room = rw j (omega (arith, u .room));
+      cells = c ∙ u .cells;
+      rest = sym (turn (number - (done + 1)) done at w none e p) ∙ one-left;
+    }
+
+    pub breaks-off : (x : ℕ) → w .stop ≡ some x → stopAt (plainly x) done (w .state) ≡ backFrom number 0 from
+    breaks-off x p = sym (turn (number - (done + 1)) done at w (some x) e p) ∙ one-left
