@@ -16,8 +16,8 @@ use crate::payload::half_at;
 use crate::payload::long_at;
 use crate::wholes::digest;
 use machine::Machine;
-use runner::Ran;
 use machine::Stop;
+use runner::Ran;
 use text::put;
 use text::put_number;
 
