@@ -18,9 +18,10 @@ use Rattle.effect.specs.Operands.{pcOf, operandOf}
 use Rattle.effect.specs.Refusal.{floats, faults, refusedBy}
 use Rattle.effect.proofs.Safe.{picked}
 use Rattle.machine.specs.State.{State, capacityOf, badCells, badSettings}
-use Rattle.runner.specs.Journal.{endedOf, regsAfter, lastOf, damagedOf, undoOf}
+use Rattle.journal.specs.Journal.{endedOf, regsAfter, lastOf, damagedOf, undoOf}
 use Rattle.machine.specs.Stops.{Said, plainly}
-use Rattle.runner.specs.Calls.{Course, going, stopped, refused, trapsOf, answered, courseOf, refusalOf, effectIn, instructionOf, moved, stepOf, Out, onward, runFrom, backFrom, checkOf, called, callOf, stopAt, runOf, backOf}
+use Rattle.turn.specs.Step.{Course, going, stopped, refused, trapsOf, answered, courseOf, refusalOf, effectIn, instructionOf, moved, stepOf}
+use Rattle.runner.specs.Calls.{Out, onward, runFrom, backFrom, checkOf, called, callOf, stopAt, runOf, backOf}
 use Rattle.runner.proofs.Counts.{step-refused, run-count, back-count}
 use Rattle.demand.specs.Journey.{steps}
 use Rattle.demand.specs.Demands.{listed, runStops, backStops, Repeated, undos, Returned}

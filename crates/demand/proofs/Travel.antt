@@ -13,13 +13,14 @@ use lib.ListN.{length, take}
 use borrow.Author.Tests.{eq-eqb, ne-eqb, eqb-true, eqb-false}
 use Rattle.effect.specs.declared.Effect.{Effect}
 use Rattle.machine.specs.State.{State, mostCells, capacityOf}
-use Rattle.runner.specs.Journal.{applyOf, lastOf, damagedOf, undoOf}
+use Rattle.journal.specs.Journal.{applyOf, lastOf, damagedOf, undoOf}
 use Rattle.machine.specs.Stops.{Said, plainly}
-use Rattle.runner.specs.Calls.{Course, going, stopped, refused, effectIn, refusalOf, moved, stepOf, Out, stopAt, onward, runFrom, backFrom, checkOf, called, backOf}
-use Rattle.runner.proofs.Steps.{room}
-use Rattle.runner.proofs.Keeps.{clear, formed-in, lawful-after}
+use Rattle.turn.specs.Step.{Course, going, stopped, refused, effectIn, refusalOf, moved, stepOf}
+use Rattle.runner.specs.Calls.{Out, stopAt, onward, runFrom, backFrom, checkOf, called, backOf}
+use Rattle.turn.proofs.Steps.{room}
+use Rattle.turn.proofs.Keeps.{clear, formed-in, lawful-after}
 use Rattle.machine.proofs.Lawful.{Lawful}
-use Rattle.runner.proofs.Entry.{Room, withJournal, intact-with, undo-with, up-to, last-known, earlier-known, lengths}
+use Rattle.journal.proofs.Entry.{Room, withJournal, intact-with, undo-with, up-to, last-known, earlier-known, lengths}
 use Rattle.runner.proofs.Counts.{done, course-done}
 use Rattle.runner.proofs.Checks.{passes}
 use Rattle.demand.specs.Journey.{Call, Step, Run, Back, Trip, setOut, forward, call, travel, steps, seen, Arrived}

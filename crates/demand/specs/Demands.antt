@@ -5,7 +5,7 @@ use mathlib.Core.Bool.{Bool, false, _||_}
 use mathlib.Core.List.{List, [], _∷_}
 use lib.Dec.{eqb}
 use Rattle.machine.specs.State.{State}
-use Rattle.runner.specs.Journal.{undoOf}
+use Rattle.journal.specs.Journal.{undoOf}
 use Rattle.machine.specs.Stops.{plainly}
 use Rattle.runner.specs.Calls.{Out}
 use Rattle.demand.specs.Journey.{steps}

@@ -5,7 +5,8 @@ use mathlib.Core.List.{List, [], _∷_}
 use Rattle.effect.specs.declared.Settings.{Settings}
 use Rattle.machine.specs.State.{State}
 use Rattle.machine.specs.Stops.{plainly}
-use Rattle.runner.specs.Calls.{stepOf, Out, runOf, backOf}
+use Rattle.turn.specs.Step.{stepOf}
+use Rattle.runner.specs.Calls.{Out, runOf, backOf}
 
 -- A call: a step, a run of a budget, or back by a number.
 pub data Call : Type 0 where

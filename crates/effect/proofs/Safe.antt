@@ -1,4 +1,4 @@
--- What carrying an effect out needs, of every instruction that is not refused: a store is to memory, and settings stay in range.
+-- What carrying an effect out needs, of every instruction that is not refused: a store is to memory, and settings that are in range stay so.
 -- Assumes nothing.
 use Prim.Native.Nat.{ℕ, _-_, _^_, _≤_, _<_}
 use mathlib.Core.Path.{_≡_, refl}
@@ -25,9 +25,9 @@ use Rattle.effect.specs.Refusal.{floats, faults, refusedBy}
 use Rattle.effect.specs.Inner.{InRange}
 use Rattle.effect.proofs.Pointers.{no-fault}
 
-pub record Safe (size : ℕ) (e : Effect) : Type 0 where
+pub record Safe (size : ℕ) (s : Settings) (e : Effect) : Type 0 where
   pub store : e .store .used ≡ true → (1 ≤ e .store .address) × (e .store .address < size)
-  pub settings : InRange (e .settings)
+  pub settings : InRange s → InRange (e .settings)
 
 -- a case that a test picks, with what the test said
 pub picked : {A : Type 0} (P : A → Type 0) (t : Bool) (x y : A) → (t ≡ true → P x) → (t ≡ false → P y) → P (cond t x y)
@@ -74,30 +74,30 @@ and-right : (a b : Bool) → (a && b) ≡ true → b ≡ true
 and-right true b h = h
 and-right false b h = cc
 
-module _ (size : ℕ) (s : Settings) (in-range : InRange s) where
-  still : (pc : ℕ) → Safe size (stillOf pc s)
-  still pc = record { store = nowhere; settings = in-range }
+module _ (size : ℕ) (s : Settings) where
+  still : (pc : ℕ) → Safe size s (stillOf pc s)
+  still pc = record { store = nowhere; settings = λ r. r }
 
-  writes : (n v pc : ℕ) → Safe size (writesOf n v pc s)
-  writes n v pc = record { store = nowhere; settings = in-range }
+  writes : (n v pc : ℕ) → Safe size s (writesOf n v pc s)
+  writes n v pc = record { store = nowhere; settings = λ r. r }
 
-  illegal : (pc : ℕ) → Safe size (illegalOf pc s)
+  illegal : (pc : ℕ) → Safe size s (illegalOf pc s)
   illegal pc = record {
     store = nowhere;
-    settings = record { flags = or-lt 9 (s .flags) 128 (in-range .flags) (omega arith); mask = in-range .mask; mode = in-range .mode };
+    settings = λ in-range. record { flags = or-lt 9 (s .flags) 128 (in-range .flags) (omega arith); mask = in-range .mask; mode = in-range .mode };
   }
 
-  operated : (op : Op) (m l rn n pc : ℕ) → Safe size (operatedOf (writtenOf op m l rn (s .flags)) n pc s)
+  operated : (op : Op) (m l rn n pc : ℕ) → Safe size s (operatedOf (writtenOf op m l rn (s .flags)) n pc s)
   operated op m l rn n pc = record {
     store = nowhere;
-    settings = record {
+    settings = λ in-range. record {
       flags = flags-in (s .flags) _ _ (in-range .flags) (raised-below op m l rn (s .flags));
       mask = in-range .mask;
       mode = in-range .mode;
     };
   }
 
-  operation : (asked : Asked) (n m l rn pc : ℕ) → Safe size (operationOf asked n m l rn pc s)
+  operation : (asked : Asked) (n m l rn pc : ℕ) → Safe size s (operationOf asked n m l rn pc s)
   unfolding operationOf
   operation (Given op) n m l rn pc = operated op m l rn n pc
   operation (Turned op) n m l rn pc = operated op l m rn n pc
@@ -109,39 +109,39 @@ module _ (size : ℕ) (s : Settings) (in-range : InRange s) where
       (λ t u. (leb-true 1 p (and-left (leb 1 p) _ t), no-fault size p f (ltb-true p firstSpecial (and-right (leb 1 p) _ t))))
       (λ t. nowhere)
 
-  ldst : (n rn rm rl v pc : ℕ) → faults size rm ≡ false → Safe size (ldstOf n rn rm rl v pc s)
+  ldst : (n rn rm rl v pc : ℕ) → faults size rm ≡ false → Safe size s (ldstOf n rn rm rl v pc s)
   unfolding ldstOf
   ldst n rn rm rl v pc f =
-      picked (Safe size) (illegalLoad rl || illegalStore rm rn) _ _ (λ t. illegal pc) (λ t.
+      picked (Safe size s) (illegalLoad rl || illegalStore rm rn) _ _ (λ t. illegal pc) (λ t.
       let legal = or-right (illegalLoad rl) (illegalStore rm rn) t in
       record {
         store = stored rm rn f;
-        settings = record {
+        settings = λ in-range. record {
           flags = in-range .flags;
           mask = mask-in rm rn (s .mask) legal (in-range .mask);
           mode = mode-in rm rn (s .mode) legal (in-range .mode);
         };
       })
 
-  registers : (x n m l rn rm rl v pc : ℕ) → (x ≡ 1 → faults size rm ≡ false) → Safe size (registersOf x n m l rn rm rl v pc s)
+  registers : (x n m l rn rm rl v pc : ℕ) → (x ≡ 1 → faults size rm ≡ false) → Safe size s (registersOf x n m l rn rm rl v pc s)
   unfolding registersOf
   registers x n m l rn rm rl v pc f =
-      picked (Safe size) (eqb x 0) _ _ (λ t. record { store = nowhere; settings = in-range }) (λ t.
-      picked (Safe size) (eqb x 1) _ _ (λ t. ldst n rn rm rl v pc (f (eqb-true x 1 t))) (λ t.
-      picked (Safe size) (eqb x 54) _ _ (λ t. record { store = nowhere; settings = in-range }) (λ t.
-      picked (Safe size) (eqb x 107) _ _ (λ t. record { store = nowhere; settings = in-range }) (λ t.
+      picked (Safe size s) (eqb x 0) _ _ (λ t. record { store = nowhere; settings = λ r. r }) (λ t.
+      picked (Safe size s) (eqb x 1) _ _ (λ t. ldst n rn rm rl v pc (f (eqb-true x 1 t))) (λ t.
+      picked (Safe size s) (eqb x 54) _ _ (λ t. record { store = nowhere; settings = λ r. r }) (λ t.
+      picked (Safe size s) (eqb x 107) _ _ (λ t. record { store = nowhere; settings = λ r. r }) (λ t.
       operation (askedOf x) n rm rl rn pc))))
 
-  immediate : (x n imm rn pc : ℕ) → Safe size (immediateOf x n imm rn pc s)
+  immediate : (x n imm rn pc : ℕ) → Safe size s (immediateOf x n imm rn pc s)
   unfolding immediateOf bzOf
   immediate x n imm rn pc =
-      picked (Safe size) (eqb x 3) _ _ (λ t. writes n _ pc) (λ t.
-      picked (Safe size) (eqb x 4) _ _ (λ t. writes n _ pc) (λ t.
-      picked (Safe size) (eqb x 5) _ _ (λ t. writes n _ pc) (λ t.
-      picked (Safe size) (eqb x 6) _ _ (λ t. writes n _ pc) (λ t.
-      picked (Safe size) (eqb x 7) _ _ (λ t. writes n _ pc) (λ t.
-      picked (Safe size) (eqb x 121) _ _ (λ t. still _) (λ t.
-      picked (Safe size) (eqb x 122) _ _ (λ t. record { store = nowhere; settings = in-range }) (λ t.
+      picked (Safe size s) (eqb x 3) _ _ (λ t. writes n _ pc) (λ t.
+      picked (Safe size s) (eqb x 4) _ _ (λ t. writes n _ pc) (λ t.
+      picked (Safe size s) (eqb x 5) _ _ (λ t. writes n _ pc) (λ t.
+      picked (Safe size s) (eqb x 6) _ _ (λ t. writes n _ pc) (λ t.
+      picked (Safe size s) (eqb x 7) _ _ (λ t. writes n _ pc) (λ t.
+      picked (Safe size s) (eqb x 121) _ _ (λ t. still _) (λ t.
+      picked (Safe size s) (eqb x 122) _ _ (λ t. record { store = nowhere; settings = λ r. r }) (λ t.
       operation (askedOf x) n rn (seOf imm) rn pc)))))))
 
   -- an LDST that is not refused does not fault at its store pointer
@@ -150,7 +150,7 @@ module _ (size : ℕ) (s : Settings) (in-range : InRange s) where
   passed false true h nx ny = absurd (ny h)
   passed false false h nx ny = refl
 
-  pub safe : (i : Instruction) (regs : List ℕ) (v : ℕ) → refusedBy i regs size ≡ none → Safe size (effectOf i regs s v)
+  pub safe : (i : Instruction) (regs : List ℕ) (v : ℕ) → refusedBy i regs size ≡ none → Safe size s (effectOf i regs s v)
   unfolding effectOf refusedBy
   safe (Registers x n m l) regs v h =
       registers x n m l _ _ _ v _ (λ e.

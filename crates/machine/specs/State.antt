@@ -1,9 +1,9 @@
 -- What can be seen of a machine with its cells and journal: document 01, 'The machine and its boundary'.
 use Prim.Native.Nat.{ℕ, _/_, min}
-use mathlib.Core.Bool.{Bool, _||_}
+use mathlib.Core.Bool.{Bool, true, false, _||_}
 use mathlib.Core.List.{List}
 use lib.Dec.{leb, ltb, eqb}
-use lib.ListN.{replicate, length}
+use lib.ListN.{replicate, length, set}
 use Rattle.effect.specs.declared.Settings.{Settings}
 use Rattle.effect.specs.Operands.{flagsBound}
 use Rattle.machine.specs.declared.Machine.{Machine}
@@ -20,6 +20,10 @@ pub record State : Type 0 where
 -- a machine with what the host lends it
 abbrev pub stateOf : Machine → List ℕ → List ℕ → State
 stateOf m cells journal = record { regs = m .regs; settings = m .settings; depth = m .depth; cells = cells; journal = journal }
+
+-- registers, settings, depth, cells and journal, each by itself
+abbrev pub stateWith : List ℕ → Settings → ℕ → List ℕ → List ℕ → State
+stateWith regs s depth cells journal = record { regs = regs; settings = s; depth = depth; cells = cells; journal = journal }
 
 -- A fresh machine has all registers 0, flags 0, mask 0, rounding mode 3, depth 0.
 abbrev pub freshSettings : Settings
@@ -42,3 +46,8 @@ badCells m = eqb m 0 || ltb mostCells m
 
 abbrev pub badSettings : Settings → Bool
 badSettings s = leb flagsBound (s .flags) || leb flagsBound (s .mask) || leb 4 (s .mode)
+
+-- a write that is made if it is used
+abbrev pub writeIf : Bool → List ℕ → ℕ → ℕ → List ℕ
+writeIf true l i v = set l i v
+writeIf false l i v = l

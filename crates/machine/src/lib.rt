@@ -1,7 +1,7 @@
-// The machine by value, 256 registers, settings and depth; what a call can say; and what a call and a job ask of M and of settings.
+// The machine by value, 256 registers, settings and depth; what a call can say; what is asked of M, settings and journal; a write that may be none.
 ghost use mathlib.Core.Path.{_≡_};
 ghost use mathlib.Core.Bool.{not};
-ghost use Rattle.machine.specs.State.{freshMachine, badCells, badSettings};
+ghost use Rattle.machine.specs.State.{freshMachine, badCells, badSettings, capacityOf, writeIf};
 ghost use Rattle.machine.specs.Stops.{saidOf};
 use effect::Settings;
 
@@ -100,4 +100,38 @@ pub fn in_range(s: Settings) -> bool
         return false;
     }
     true
+}
+
+// J: the lesser of 65,536 and the journal's length divided by 8.
+pub fn capacity(journal: &[u32]) -> u32
+    ensures { λ r. ⌜ r ≡ capacityOf (now (journal .entry)) ⌝ }
+{
+    let entries = journal.len() / 8;
+    if entries < Machine::MOST_ENTRIES as usize {
+        entries as u32
+    } else {
+        Machine::MOST_ENTRIES
+    }
+}
+
+// A register write that is made if it is used.
+pub fn put(regs: &mut [u32; 256], used: bool, number: u8, value: u32)
+    ensures { λ r. ⌜ now (regs .exit) ≡ writeIf used (now (regs .entry)) number value ⌝ }
+{
+    if used {
+        let i = number as usize;
+        regs[i] = value;
+    }
+}
+
+// The same for a cell; past the cells there is none.
+pub fn keep(cells: &mut [u32], used: bool, address: u32, value: u32)
+    ensures { λ r. ⌜ now (cells .exit) ≡ writeIf used (now (cells .entry)) address value ⌝ }
+{
+    if used {
+        let i = address as usize;
+        if i < cells.len() {
+            cells[i] = value;
+        }
+    }
 }

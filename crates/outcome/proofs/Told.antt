@@ -8,8 +8,9 @@ use Rattle.effect.specs.Operands.{operandOf}
 use Rattle.effect.specs.Effect.{flagsOf, operationOf, loadOf, ldstOf, bzOf, registersOf, immediateOf, effectOf, behindOf}
 use Rattle.effect.specs.Refusal.{refusedBy}
 use Rattle.machine.specs.State.{capacityOf, freshMachine}
-use Rattle.runner.specs.Journal.{regsAfter, cellsAfter, settingsAfter, entryOf}
-use Rattle.runner.specs.Calls.{refusalOf, effectIn, courseOf, stepOf, runFrom, checkOf}
+use Rattle.journal.specs.Journal.{regsAfter, cellsAfter, settingsAfter, entryOf}
+use Rattle.turn.specs.Step.{refusalOf, effectIn, courseOf, stepOf}
+use Rattle.runner.specs.Calls.{runFrom, checkOf}
 use Rattle.job.specs.Job.{littleOf, numberAt, kindBy, wordsOf, inOrder, courseOf as recordOf, refusalFrom, contentFrom, refusalIn}
 use Rattle.outcome.specs.Outcome.{registersText, ranText, outcomeOf, textOf}
 use Rattle.outcome.specs.Printed.{printedJob}

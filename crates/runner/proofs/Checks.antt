@@ -18,7 +18,7 @@ use Rattle.runner.specs.declared.Checked.{Checked}
 use Rattle.effect.specs.Inner.{InRange}
 use Rattle.runner.specs.Inner.{saidBy, checkedOf}
 use Rattle.effect.proofs.Safe.{or-left, or-right}
-use Rattle.runner.proofs.Keeps.{past}
+use Rattle.turn.proofs.Keeps.{past}
 
 none-said : (o : Option ℕ) → saidBy o ≡ none → o ≡ none
 none-said none h = refl

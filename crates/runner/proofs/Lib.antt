@@ -1,11 +1,5 @@
-pub mod Lists
-pub mod Words
-pub mod Damage
-pub mod Steps
-pub mod Keeps
 pub mod Turns
 pub mod Checks
 pub mod Returns
-pub mod Entry
 pub mod Counts
 pub mod Named

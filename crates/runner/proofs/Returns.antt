@@ -11,12 +11,11 @@ use lib.Dec.{eqb}
 use lib.ListN.{length}
 use borrow.Author.Tests.{eqb-false}
 use Rattle.effect.specs.declared.Settings.{Settings}
-use Rattle.runner.specs.declared.undo.Returned.{Returned}
+use Rattle.journal.specs.declared.Returned.{Returned}
 use Rattle.machine.specs.State.{State, capacityOf}
-use Rattle.runner.specs.Journal.{lastOf, damagedOf, undoOf}
+use Rattle.journal.specs.Journal.{lastOf, damagedOf, undoOf, Gone, takenBack, returnedOf}
 use Rattle.machine.specs.Stops.{plainly}
 use Rattle.runner.specs.Calls.{Out, stopAt, backFrom}
-use Rattle.runner.specs.Inner.{Gone, takenBack, returnedOf}
 
 -- after a step back: the rest, or the end
 abbrev homeward : (ℕ → State → Out) → Option ℕ → ℕ → State → Out

@@ -7,9 +7,10 @@ use native.Mathlib.Omega.{arith}
 use lib.ListN.{length}
 use Rattle.machine.specs.State.{State}
 use Rattle.machine.specs.Inner.{Ready}
-use Rattle.runner.proofs.Keeps.{ready-kept}
+use Rattle.turn.proofs.Keeps.{ready-kept}
 use Rattle.machine.specs.Stops.{Said, plainly}
-use Rattle.runner.specs.Calls.{Course, going, stopped, refused, Moved, stepOf, stopAt, onward, runFrom}
+use Rattle.turn.specs.Step.{Course, going, stopped, refused, Moved, stepOf}
+use Rattle.runner.specs.Calls.{stopAt, onward, runFrom}
 
 left : (b d : ℕ) → d < b → b - d ≡ suc (b - (d + 1))
 left b d h = omega arith

@@ -1,4 +1,4 @@
--- One step, and the calls step, run and back with their stops: document 01, 'Stops of step, run and back'.
+-- The calls step, run and back with their stops: document 01, 'Stops of step, run and back'.
 use Prim.Native.Nat.{ℕ, zero, suc, _+_}
 use mathlib.Core.Bool.{Bool, cond, not, _||_}
 use mathlib.Core.Option.{Option, none, some}
@@ -19,54 +19,8 @@ use Rattle.machine.specs.declared.Stop.the-variants.{Done, Ended, Trap, Int, Fe
 use Rattle.machine.specs.State.{State, stateOf, mostCells, capacityOf, badCells, badSettings}
 use Rattle.effect.specs.Operands.{flagsBound, pcOf}
 use Rattle.effect.specs.Effect.{effectOf, behindOf}
-use Rattle.runner.specs.Journal.{endedOf, regsAfter, applyOf, lastOf, damagedOf, undoOf}
+use Rattle.journal.specs.Journal.{endedOf, regsAfter, applyOf, lastOf, damagedOf, undoOf}
 use Rattle.machine.specs.Stops.{saidOf, Said, plainly}
-
--- The instruction that the cell at PC is.
-abbrev pub instructionOf : State → Instruction
-instructionOf s = decodeOf (getD (s .cells) (pcOf (s .regs)) 0)
-
--- Before each step: 1, 4, 7, 6, 5. None of them, or the first.
-unfoldable pub refusalOf : State → Option ℕ
-refusalOf s =
-    cond (endedOf (s .regs)) (some 1)
-    (cond (leb (length (s .cells)) (pcOf (s .regs))) (some 4)
-    (cond (leb (capacityOf (s .journal)) (s .depth)) (some 7)
-    (refusedBy (instructionOf s) (s .regs) (length (s .cells)))))
-
--- what the instruction at PC does
-unfoldable pub effectIn : State → Effect
-effectIn s = effectOf (instructionOf s) (s .regs) (s .settings) (behindOf (instructionOf s) (s .regs) (s .settings) (s .cells))
-
--- What became of a step: done and going on, done and stopped, or refused with nothing done.
-pub data Course : Type 0 where
-  going : Course
-  stopped : Said → Course
-  refused : Said → Course
-
--- 2: a flag this step wrote as 1, even over a 1, is in the mask
-abbrev pub trapsOf : Effect → Bool
-trapsOf e = not (eqb (bitAnd (e .raised) (e .settings .mask)) 0)
-
--- After it: 1, 3, 2.
-abbrev pub answered : Answer → Effect → Course
-answered Onward e = cond (trapsOf e) (stopped (plainly 2)) going
-answered (Interrupt value imm) e = stopped (record { number = 3; value = value; imm = imm })
-
-unfoldable pub courseOf : Effect → List ℕ → Course
-courseOf e regs = cond (endedOf (regsAfter e regs)) (stopped (plainly 1)) (answered (e .answer) e)
-
--- One step: the machine, cells and journal after it, and what became of it. A refused step changes nothing.
-pub record Moved : Type 0 where
-  pub state : State
-  pub course : Course
-
-abbrev pub moved : Option ℕ → State → Moved
-moved (some k) s = record { state = s; course = refused (plainly k) }
-moved none s = record { state = applyOf (effectIn s) s; course = courseOf (effectIn s) (s .regs) }
-
-unfoldable pub stepOf : State → Moved
-stepOf s = moved (refusalOf s) s
 
 -- All that a call leaves: machine, cells and journal, what it says, and the count done. A call's answer with the cells and journal
 -- that it left, as such.

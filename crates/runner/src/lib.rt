@@ -6,21 +6,16 @@ ghost use Rattle.machine.specs.Stops.{saidOf};
 ghost use Rattle.runner.specs.Calls.{checkOf, outOf, runFrom, backFrom, runOf, backOf};
 ghost use Rattle.machine.specs.Inner.{Ready};
 ghost use Rattle.runner.specs.Inner.{checkedOf, saidBy};
-
-mod carry;
-mod journal;
-mod turn;
-mod undo;
-
 use effect::Settings;
+use journal::Returned;
+use journal::take_back;
 use machine::Machine;
 use machine::Stop;
+use machine::capacity;
 use machine::enough_cells;
 use machine::in_range;
 use turn::Verdict;
 use turn::advance;
-use undo::Returned;
-use undo::take_back;
 
 // What a call leaves beside cells and journal.
 pub struct Ran {
@@ -33,18 +28,6 @@ pub struct Ran {
 enum Checked {
     Fine,
     Bad(Stop),
-}
-
-// J: the lesser of 65,536 and the journal's length divided by 8.
-fn capacity(journal: &[u32]) -> u32
-    ensures { λ r. ⌜ r ≡ capacityOf (now (journal .entry)) ⌝ }
-{
-    let entries = journal.len() / 8;
-    if entries < Machine::MOST_ENTRIES as usize {
-        entries as u32
-    } else {
-        Machine::MOST_ENTRIES
-    }
 }
 
 // Once a call: 12, 10, 11.
@@ -73,9 +56,8 @@ fn run_on(m: Machine, cells: &mut [u32], journal: &mut [u32], budget: u64) -> Ra
     let mut depth = m.depth;
     let mut done: u64 = 0;
     let mut stop = Stop::Done;
-    let most = capacity(journal);
     while done < budget {
-        let step = advance(&mut regs, settings, depth, cells, journal, most);
+        let step = advance(&mut regs, settings, depth, cells, journal);
         settings = step.settings;
         depth = step.depth;
         let verdict = step.verdict;
@@ -105,6 +87,24 @@ fn run_on(m: Machine, cells: &mut [u32], journal: &mut [u32], budget: u64) -> Ra
     }
 }
 
+// The last entry's words.
+fn last(journal: &[u32], depth: u32) -> [u32; 8]
+    requires { ⌜ (1 ≤ depth) × (8 * depth ≤ length (now journal)) ⌝ }
+    ensures { λ r. ⌜ r ≡ lastOf (now (journal .entry)) depth ⌝ }
+{
+    let at = 8 * ((depth - 1) as usize);
+    [
+        journal[at],
+        journal[at + 1],
+        journal[at + 2],
+        journal[at + 3],
+        journal[at + 4],
+        journal[at + 5],
+        journal[at + 6],
+        journal[at + 7],
+    ]
+}
+
 // As many steps back as the number says, or up to a stop. The journal is not written.
 fn back_on(m: Machine, cells: &mut [u32], journal: &[u32], number: u64) -> Ran
     requires { ⌜ m .depth ≤ capacityOf (now journal) ⌝ }
@@ -116,16 +116,16 @@ fn back_on(m: Machine, cells: &mut [u32], journal: &[u32], number: u64) -> Ran
     let mut undone: u64 = 0;
     let mut stop = Stop::Done;
     while undone < number {
-        let returned = take_back(&mut regs, settings, depth, cells, journal);
+        if depth == 0 {
+            stop = Stop::Start;
+            break;
+        }
+        let returned = take_back(&mut regs, cells, last(journal, depth));
         match returned {
             Returned::Back(before) => {
                 settings = before;
                 depth = depth - 1;
                 undone = undone + 1;
-            }
-            Returned::Start => {
-                stop = Stop::Start;
-                break;
             }
             Returned::Damaged => {
                 stop = Stop::Damaged;

@@ -6,9 +6,9 @@ use native.Mathlib.Omega.{arith}
 use borrow.Author.Needs.{needs}
 use Rattle.runner.proofs.Returns.{as-told, Returning, turn-round, over, again, breaks-off, deep}
 use Rattle.machine.specs.declared.Stop.the-variants.{Done}
-use Rattle.runner.specs.declared.undo.Returned.the-variants.{Back, Start, Damaged}
-use Rattle.runner.specs.Inner.{stateWith}
-use Rattle.runner.proofs.Steps.{entries}
+use Rattle.journal.specs.declared.Returned.the-variants.{Back, Start, Damaged}
+use Rattle.machine.specs.State.{stateWith}
+use Rattle.turn.proofs.Steps.{entries}
 use Rattle.runner.proofs.back_on.Statement.{statement}
 use Rattle.runner.proofs.back_on.Tie as tie
 

@@ -5,10 +5,10 @@ use Prim.Native.Nat.{_-_}
 use native.Mathlib.Omega.{arith}
 use borrow.Author.Needs.{needs}
 use Rattle.machine.specs.declared.Stop.the-variants.{Done}
-use Rattle.runner.specs.declared.turn.Verdict.the-variants.{Stopped, Refused}
-use Rattle.machine.specs.State.{capacityOf}
-use Rattle.runner.specs.Inner.{stateWith, verdictOf}
-use Rattle.runner.proofs.Steps.{as-much}
+use Rattle.turn.specs.declared.Verdict.the-variants.{Stopped, Refused}
+use Rattle.machine.specs.State.{capacityOf, stateWith}
+use Rattle.turn.specs.Step.{verdictOf}
+use Rattle.turn.proofs.Steps.{as-much}
 use Rattle.runner.proofs.Turns.{Underway, set-out, over, again, ends, breaks-off}
 use Rattle.runner.proofs.run_on.Statement.{statement}
 use Rattle.runner.proofs.run_on.Tie as tie
