@@ -1,16 +1,9 @@
 -- What a call leaves determines machine, stop, count, cells and journal: a promise that speaks of it leaves one possible answer.
 -- Assumes nothing.
 use Prim.Native.Nat.{ℕ}
-use mathlib.Core.Path.{_≡_, refl, sym, ap, _∙_}
-use mathlib.Core.Bool.{cond}
+use mathlib.Core.Path.{_≡_, sym, ap, _∙_}
 use mathlib.Core.List.{List}
-use lib.Dec.{eqb}
-use Rattle.machine.specs.declared.Machine.{Machine}
 use Rattle.runner.specs.declared.Ran.{Ran}
-use Rattle.machine.specs.declared.Stop.{Stop}
-use Rattle.machine.specs.declared.Stop.the-variants.{Done, Ended, Trap, Int, Fetch, Fault, Float, Full, Start, Damaged, Unsettled, Deep, Cells}
-use Rattle.machine.specs.State.{State}
-use Rattle.machine.specs.Stops.{Said, saidOf}
 use Rattle.runner.specs.Calls.{Out, outOf}
 use Rattle.machine.proofs.Named.{heard, heard-said}
 

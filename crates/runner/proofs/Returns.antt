@@ -7,9 +7,8 @@ use mathlib.Core.Option.{Option, none, some}
 use mathlib.Core.List.{List}
 use native.Mathlib.Nat.{sub-zero}
 use native.Mathlib.Omega.{arith}
-use lib.Dec.{eqb}
 use lib.ListN.{length}
-use borrow.Author.Tests.{eqb-false}
+use borrow.Author.Tests.{eq-eqb, ne-eqb}
 use Rattle.effect.specs.declared.Settings.{Settings}
 use Rattle.journal.specs.declared.Returned.{Returned}
 use Rattle.machine.specs.State.{State, capacityOf}
@@ -22,35 +21,33 @@ abbrev homeward : (ℕ → State → Out) → Option ℕ → ℕ → State → O
 homeward rest none k s = rest (k + 1) s
 homeward rest (some x) k s = stopAt (plainly x) k s
 
-abbrev gone : Bool → Bool → State → Gone
-gone t u s = cond t (record { state = s; stop = some 8 }) (cond u (record { state = s; stop = some 9 }) (record { state = undoOf s; stop = none }))
+abbrev gone : Bool → State → Gone
+gone u s = cond u (record { state = s; stop = some 9 }) (record { state = undoOf s; stop = none })
 
-homeward-by : (t u : Bool) (rest : ℕ → State → Out) (k : ℕ) (s : State)
-    → cond t (stopAt (plainly 8) k s) (cond u (stopAt (plainly 9) k s) (rest (k + 1) (undoOf s))) ≡ homeward rest (gone t u s .stop) k (gone t u s .state)
-homeward-by true u rest k s = refl
-homeward-by false true rest k s = refl
-homeward-by false false rest k s = refl
+homeward-by : (u : Bool) (rest : ℕ → State → Out) (k : ℕ) (s : State) → cond u (stopAt (plainly 9) k s) (rest (k + 1) (undoOf s)) ≡ homeward rest (gone u s .stop) k (gone u s .state)
+homeward-by true rest k s = refl
+homeward-by false rest k s = refl
 
-turn : (n k : ℕ) (s : State) (w : Gone) (o : Option ℕ) → w ≡ takenBack s → w .stop ≡ o → backFrom (suc n) k s ≡ homeward (backFrom n) o k (w .state)
+-- a step back that was there to take
+abbrev Took : State → Gone → Type 0
+Took s w = w ≡ takenBack (lastOf (s .journal) (s .depth)) s
+
+turn : (n k : ℕ) (s : State) (w : Gone) (o : Option ℕ) → 1 ≤ s .depth → Took s w → w .stop ≡ o → backFrom (suc n) k s ≡ homeward (backFrom n) o k (w .state)
 unfolding backFrom takenBack
-turn n k s w o e p =
-    homeward-by (eqb (s .depth) 0) (damagedOf (length (s .cells)) (lastOf (s .journal) (s .depth))) (backFrom n) k s ∙ rw (← e, p)
+turn n k s w o d e p =
+    rw (ne-eqb (s .depth) 0 (λ z. omega arith)) (homeward-by (damagedOf (length (s .cells)) (lastOf (s .journal) (s .depth))) (backFrom n) k s ∙ rw (← e, p))
 
--- the answer's case is known
-pub as-told : (r v : Returned) (s : Settings) (depth : ℕ) (regs cells journal : List ℕ) (at : State)
-    → r ≡ v → returnedOf r s depth regs cells journal ≡ takenBack at → returnedOf v s depth regs cells journal ≡ takenBack at
-as-told r v s depth regs cells journal at e h = rw (← e) h
+pub deep : (d : ℕ) → (d ≡ 0 → ⊥) → 1 ≤ d
+deep d h = omega arith
 
--- a step that was taken back was there
-deep-by : (t u : Bool) (s : State) → gone t u s .stop ≡ none → t ≡ false
-deep-by true u s h = let z : _≡_ {A = ℕ} 0 1 = cc in absurd (omega arith)
-deep-by false u s h = refl
+none-left : (n k : ℕ) (s : State) → s .depth ≡ 0 → backFrom (suc n) k s ≡ stopAt (plainly 8) k s
+unfolding backFrom
+none-left n k s z = rw (eq-eqb (s .depth) 0 z)
 
-pub deep : (s : State) (w : Gone) → w ≡ takenBack s → w .stop ≡ none → 1 ≤ s .depth
-unfolding takenBack
-deep s w e p =
-    let not-zero = eqb-false (s .depth) 0 (deep-by (eqb (s .depth) 0) (damagedOf (length (s .cells)) (lastOf (s .journal) (s .depth))) s (rw e at p)) in
-    omega arith
+-- the answer's case and the entry are known
+pub as-told : (r v : Returned) (w last : List ℕ) (s : Settings) (depth : ℕ) (regs cells journal : List ℕ) (at : State)
+    → r ≡ v → w ≡ last → returnedOf r s depth regs cells journal ≡ takenBack w at → returnedOf v s depth regs cells journal ≡ takenBack last at
+as-told r v w last s depth regs cells journal at e l h = rw (← e, ← l) h
 
 left : (b d : ℕ) → d < b → b - d ≡ suc (b - (d + 1))
 left b d h = omega arith
@@ -70,18 +67,22 @@ module _ (number : ℕ) (from at : State) (done : ℕ) (u : Returning number fro
   unfolding backFrom
   over h = let z : number - done ≡ 0 = omega (arith, u .few) in sym (rw z refl) ∙ u .rest
 
-  module _ (below : done < number) (w : Gone) (e : w ≡ takenBack at) where
+  module _ (below : done < number) where
     one-left : backFrom (suc (number - (done + 1))) done at ≡ backFrom number 0 from
     one-left = rw (← left number done below) (u .rest)
 
-    pub again : w .stop ≡ none → w .state .depth ≤ at .depth → w .state .journal ≡ at .journal → length (w .state .cells) ≡ length (at .cells)
-        → Returning number from (w .state) (done + 1)
-    again p d j c = record {
-      few = omega arith;
-      room = rw j (omega (arith, u .room));
-      cells = c ∙ u .cells;
-      rest = sym (turn (number - (done + 1)) done at w none e p) ∙ one-left;
-    }
+    pub at-start : at .depth ≡ 0 → stopAt (plainly 8) done at ≡ backFrom number 0 from
+    at-start z = sym (none-left (number - (done + 1)) done at z) ∙ one-left
 
-    pub breaks-off : (x : ℕ) → w .stop ≡ some x → stopAt (plainly x) done (w .state) ≡ backFrom number 0 from
-    breaks-off x p = sym (turn (number - (done + 1)) done at w (some x) e p) ∙ one-left
+    module _ (w : Gone) (deep : 1 ≤ at .depth) (e : w ≡ takenBack (lastOf (at .journal) (at .depth)) at) where
+      pub again : w .stop ≡ none → w .state .depth ≤ at .depth → w .state .journal ≡ at .journal → length (w .state .cells) ≡ length (at .cells)
+          → Returning number from (w .state) (done + 1)
+      again p d j c = record {
+        few = omega arith;
+        room = rw j (omega (arith, u .room));
+        cells = c ∙ u .cells;
+        rest = sym (turn (number - (done + 1)) done at w none deep e p) ∙ one-left;
+      }
+
+      pub breaks-off : (x : ℕ) → w .stop ≡ some x → stopAt (plainly x) done (w .state) ≡ backFrom number 0 from
+      breaks-off x p = sym (turn (number - (done + 1)) done at w (some x) deep e p) ∙ one-left

@@ -6,8 +6,6 @@ use native.Mathlib.Nat.{sub-zero}
 use native.Mathlib.Omega.{arith}
 use lib.ListN.{length}
 use Rattle.machine.specs.State.{State}
-use Rattle.machine.specs.Inner.{Ready}
-use Rattle.turn.proofs.Keeps.{ready-kept}
 use Rattle.machine.specs.Stops.{Said, plainly}
 use Rattle.turn.specs.Step.{Course, going, stopped, refused, Moved, stepOf}
 use Rattle.runner.specs.Calls.{stopAt, onward, runFrom}
@@ -36,13 +34,12 @@ number-done b d s p q = let z : b - d ≡ 0 = omega arith in rw z
 -- A run that is under way: what is left of it leads where the whole run leads.
 pub record Underway (budget : ℕ) (from at : State) (done : ℕ) : Type 0 where
   pub few : done ≤ budget
-  pub ready : Ready (at .settings) (at .depth) (at .journal)
   pub cells : length (at .cells) ≡ length (from .cells)
   pub journal : length (at .journal) ≡ length (from .journal)
   pub rest : runFrom (budget - done) done at ≡ runFrom budget 0 from
 
-pub set-out : (budget : ℕ) (from : State) → Ready (from .settings) (from .depth) (from .journal) → Underway budget from from 0
-set-out budget from r = record { few = omega arith; ready = r; cells = refl; journal = refl; rest = rw sub-zero }
+pub set-out : (budget : ℕ) (from : State) → Underway budget from from 0
+set-out budget from = record { few = omega arith; cells = refl; journal = refl; rest = rw sub-zero }
 
 module _ (budget : ℕ) (from at : State) (done : ℕ) (u : Underway budget from at done) where
   pub over : budget ≤ done → stopAt (plainly 0) done at ≡ runFrom budget 0 from
@@ -53,7 +50,6 @@ module _ (budget : ℕ) (from at : State) (done : ℕ) (u : Underway budget from
         → Underway budget from (w .state) (done + 1)
     again p c j = record {
       few = omega arith;
-      ready = rw e (ready-kept at (u .ready));
       cells = c ∙ u .cells;
       journal = j ∙ u .journal;
       rest = went-on budget done at below w e p ∙ u .rest;

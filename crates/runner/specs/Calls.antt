@@ -1,26 +1,16 @@
 -- The calls step, run and back with their stops: document 01, 'Stops of step, run and back'.
 use Prim.Native.Nat.{ℕ, zero, suc, _+_}
-use mathlib.Core.Bool.{Bool, cond, not, _||_}
+use mathlib.Core.Bool.{cond}
 use mathlib.Core.Option.{Option, none, some}
 use mathlib.Core.List.{List}
-use lib.Bits.{bitAnd}
-use lib.Dec.{leb, ltb, eqb}
-use lib.ListN.{getD, length}
-use Rattle.cell.specs.declared.Instruction.{Instruction}
-use Rattle.cell.specs.Cell.{decodeOf}
-use Rattle.effect.specs.Refusal.{refusedBy}
+use lib.Dec.{ltb, eqb}
+use lib.ListN.{length}
 use Rattle.effect.specs.declared.Settings.{Settings}
-use Rattle.effect.specs.declared.Effect.{Effect}
-use Rattle.effect.specs.declared.Answer.{Answer}
-use Rattle.effect.specs.declared.Answer.the-variants.{Onward, Interrupt}
 use Rattle.runner.specs.declared.Ran.{Ran}
-use Rattle.machine.specs.declared.Stop.{Stop}
-use Rattle.machine.specs.declared.Stop.the-variants.{Done, Ended, Trap, Int, Fetch, Fault, Float, Full, Start, Damaged, Unsettled, Deep, Cells}
-use Rattle.machine.specs.State.{State, stateOf, mostCells, capacityOf, badCells, badSettings}
-use Rattle.effect.specs.Operands.{flagsBound, pcOf}
-use Rattle.effect.specs.Effect.{effectOf, behindOf}
-use Rattle.journal.specs.Journal.{endedOf, regsAfter, applyOf, lastOf, damagedOf, undoOf}
+use Rattle.machine.specs.State.{State, stateOf, capacityOf, badCells, badSettings}
+use Rattle.journal.specs.Journal.{lastOf, damagedOf, undoOf}
 use Rattle.machine.specs.Stops.{saidOf, Said, plainly}
+use Rattle.turn.specs.Step.{Course, going, stopped, refused, stepOf}
 
 -- All that a call leaves: machine, cells and journal, what it says, and the count done. A call's answer with the cells and journal
 -- that it left, as such.

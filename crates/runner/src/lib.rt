@@ -1,11 +1,11 @@
 // The calls step, run and back: a machine by value, over cells and a journal that the host lends.
 ghost use mathlib.Core.Path.{_≡_};
-ghost use Prim.Native.Nat.{_≤_};
-ghost use Rattle.machine.specs.State.{freshMachine, stateOf, capacityOf};
-ghost use Rattle.machine.specs.Stops.{saidOf};
+ghost use Prim.Native.Nat.{_*_, _≤_};
+ghost use lib.ListN.{length};
+ghost use Rattle.machine.specs.State.{stateOf, capacityOf};
 ghost use Rattle.runner.specs.Calls.{checkOf, outOf, runFrom, backFrom, runOf, backOf};
-ghost use Rattle.machine.specs.Inner.{Ready};
 ghost use Rattle.runner.specs.Inner.{checkedOf, saidBy};
+ghost use Rattle.journal.specs.Journal.{lastOf};
 use effect::Settings;
 use journal::Returned;
 use journal::take_back;
@@ -48,7 +48,6 @@ fn check(size: usize, s: Settings, most: u32, depth: u32) -> Checked
 
 // As many steps as the budget says, or up to a stop. The registers are copied out once and put back once.
 fn run_on(m: Machine, cells: &mut [u32], journal: &mut [u32], budget: u64) -> Ran
-    requires { ⌜ Ready (m .settings) (m .depth) (now journal) ⌝ }
     ensures { λ r. ⌜ outOf r (now (cells .exit)) (now (journal .exit)) ≡ runFrom budget 0 (stateOf m (now (cells .entry)) (now (journal .entry))) ⌝ }
 {
     let mut regs = m.regs;

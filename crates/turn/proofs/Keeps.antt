@@ -8,10 +8,10 @@ use mathlib.Core.List.{List}
 use mathlib.Core.Option.{Option, none, some}
 use native.Mathlib.Omega.{arith}
 use lib.Bits.{or-lt}
-use lib.Dec.{leb, ltb, eqb}
-use lib.ListN.{length, getD, set}
-use lib.Seq.{sets, length-sets, getD-set-same, getD-set-other, set-out}
-use borrow.Author.Tests.{leb-false, ltb-true, ltb-false, eqb-true, eqb-false}
+use lib.Dec.{leb}
+use lib.ListN.{length}
+use lib.Seq.{sets, length-sets}
+use borrow.Author.Tests.{leb-false}
 use Rattle.effect.specs.declared.Settings.{Settings}
 use Rattle.machine.specs.State.{State, capacityOf, writeIf}
 use Rattle.effect.specs.Operands.{firstSpecial, pcOf}

@@ -22,7 +22,7 @@ use Rattle.effect.specs.Refusal.{floats, faults, refusedBy}
 use Rattle.turn.specs.Step.{instructionOf, refusalOf, effectIn, Course, refused, stopped, answered, courseOf, stepOf}
 use Rattle.machine.specs.Stops.{plainly}
 use Rattle.turn.specs.Inner.{doneOf}
-use Rattle.effect.specs.Inner.{InRange, atLength, considered, consideredOf}
+use Rattle.effect.specs.Inner.{atLength, considered, consideredOf}
 use Rattle.effect.proofs.Safe.{Safe, safe}
 
 module _ (s : State) where

@@ -3,10 +3,9 @@ ghost use mathlib.Core.Path.{_≡_};
 ghost use mathlib.Core.Bool.{cond};
 ghost use lib.Dec.{leb};
 ghost use Rattle.effect.specs.Operands.{firstSpecial};
-ghost use Rattle.machine.specs.State.{capacityOf, stateWith};
+ghost use Rattle.machine.specs.State.{stateWith};
 ghost use Rattle.machine.specs.Stops.{plainly};
 ghost use Rattle.turn.specs.Step.{stopped, answered, stepOf, verdictOf, advancedTo};
-ghost use Rattle.machine.specs.Inner.{Ready};
 
 mod carry;
 mod entry;

@@ -19,8 +19,7 @@ enum-told : tie.Need-enum-told
 enum-told c = search needs
 
 run-on-requires : tie.Need-run-on-requires
-run-on-requires c κs = let p = checked _ _ _ _ (as-told (c .before .before .before .before .check .result) Fine _ _ _ _ _ (c .before .before .before .before .before .capacity .ensures) (search needs) (c .before .before .before .before .check .ensures)) in
-    record { settled = p .settled; room = p .room }
+run-on-requires c κs = search needs
 
 enum-known-checked : tie.Need-enum-known-checked
 enum-known-checked c = search needs
