@@ -14,7 +14,7 @@ use Rattle.effect.specs.Inner.{InRange}
 use Rattle.machine.specs.declared.Machine.{Machine}
 use Rattle.machine.specs.State.{mostCells, badCells, badSettings}
 use Rattle.job.specs.Job.{nothingYet, Content, unnamed, refusalIn, loadOf}
-use Rattle.job.specs.Saving.{recordOf, runsFrom, valuesFrom, setupOf, savedOf, Save, unsaved, saveOf}
+use Rattle.saver.specs.Saving.{recordOf, runsFrom, valuesFrom, setupOf, savedOf, Save, unsaved, saveOf}
 use Rattle.machine.proofs.Checks.{not-above}
 use Rattle.job.proofs.Lawful.{in-range}
 use Rattle.demand.specs.Reload.{Held, Saveable, reloaded}

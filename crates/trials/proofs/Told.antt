@@ -13,10 +13,10 @@ use Rattle.machine.specs.declared.Machine.{Machine}
 use Rattle.machine.specs.State.{badCells, badSettings}
 use Rattle.job.specs.declared.Refusal.{Refusal}
 use Rattle.job.specs.declared.Answer.the-variants.{Refused}
-use Rattle.job.specs.declared.Saved.{Saved}
-use Rattle.job.specs.declared.Saved.the-variants.{Written, Unsaved}
+use Rattle.saver.specs.declared.Saved.{Saved}
+use Rattle.saver.specs.declared.Saved.the-variants.{Written, Unsaved}
 use Rattle.job.specs.Job.{numberOf, saidOf, loadOf}
-use Rattle.job.specs.Saving.{Save, savedOf, saveOf, saveWith}
+use Rattle.saver.specs.Saving.{Save, savedOf, saveOf, saveWith}
 use Rattle.job.proofs.Named.{numbered}
 use Rattle.outcome.specs.Outcome.{refusedText}
 use Rattle.trials.specs.Texts.{lineText}
