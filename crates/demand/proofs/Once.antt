@@ -34,10 +34,10 @@ use Rattle.job.specs.declared.Refusal.{Refusal}
 use Rattle.job.specs.declared.Answer.{Answer}
 use Rattle.job.specs.declared.Answer.the-variants.{Done, Refused}
 use Rattle.job.specs.declared.Loaded.{Loaded}
-use Rattle.job.specs.declared.Saved.{Saved}
-use Rattle.job.specs.declared.Saved.the-variants as save
+use Rattle.saver.specs.declared.Saved.{Saved}
+use Rattle.saver.specs.declared.Saved.the-variants as save
 use Rattle.job.specs.Job as job
-use Rattle.job.specs.Saving as saving
+use Rattle.saver.specs.Saving as saving
 use Rattle.job.proofs.Named.{heard, heard-number}
 
 -- two that equal one thing are equal

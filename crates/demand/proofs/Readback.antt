@@ -17,13 +17,13 @@ use Rattle.effect.specs.Inner.{InRange}
 use Rattle.effect.proofs.Safe.{picked}
 use Rattle.machine.specs.State.{mostCells, freshSettings, badSettings}
 use Rattle.job.specs.Job.{littleOf, bytesOf, numberAt, kindBy, knownOf, fitsOf, endsOf, baseOf, countOf, wordsOf, cellsIn, registerOf, valueOf, settingsIn, sizeOf, kindOf, payloadOf, pastOf, inOrder, withinOf, settledIn, passed, courseOf, refusalFrom, Content, contentOf, contentFrom}
-use Rattle.job.specs.Saving.{recordOf, wordBytes, runOf, runsFrom, valueRecord, valuesFrom, freshOf, setupOf}
+use Rattle.saver.specs.Saving.{recordOf, wordBytes, runOf, runsFrom, valueRecord, valuesFrom, freshOf, setupOf}
 use Rattle.job.proofs.Numbers.{bound, take-bytes, drop-bytes, little-bytes}
 use Rattle.job.proofs.Words.{number-drop}
 use Rattle.job.proofs.Walk.{SoFar}
 use Rattle.job.proofs.Rules.{and-left, and-right}
 use Rattle.text.proofs.Adds.{sets-append}
-use Rattle.job.proofs.Pieces.{head-length, length-record, run-payload, value-none, value-record, value-payload, setup-none, setup-record, setup-payload}
+use Rattle.saver.proofs.Pieces.{head-length, length-record, run-payload, value-none, value-record, value-payload, setup-none, setup-record, setup-payload}
 use Rattle.demand.specs.Reload.{Words32}
 
 -- ---- a number is read as it was written

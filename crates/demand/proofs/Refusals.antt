@@ -20,7 +20,7 @@ use Rattle.effect.proofs.Safe.{picked}
 use Rattle.machine.specs.declared.Machine.{Machine}
 use Rattle.machine.specs.State.{badCells, badSettings}
 use Rattle.job.specs.Job.{Course, refused, last, onward, Said, refusalFrom, refusalIn, loadedBy, loadOf, courseOf, payloadCourse, kindOf, sizeOf, payloadOf, knownOf, fitsOf, inOrder, withinOf, settledIn, endsOf, pastOf, passed, followed, endOf, nothingYet}
-use Rattle.job.specs.Saving.{Save, savedOf, saveOf, storedOf}
+use Rattle.saver.specs.Saving.{Save, savedOf, saveOf, storedOf}
 use Rattle.demand.specs.Demands.{listed, encodeSays, printSays, readSays, loadSays, saveSays}
 
 pub encode-said : (opcode : ℕ) (o : Operands) → listed encodeSays (cell.encodeOf opcode o .number) ≡ true

@@ -1,20 +1,20 @@
 -- Loading a saved job into as many cells gives that machine and those cells, at depth 0. The proof walks over the saved job's pieces, each of which
 -- is read back.
 -- Assumes nothing.
-use Prim.Native.Nat.{ℕ, zero, suc, _+_, _≤_}
+use Prim.Native.Nat.{ℕ, zero, suc, _+_}
 use mathlib.Core.Path.{_≡_, refl, _∙_}
-use mathlib.Core.Bool.{Bool, true, false, cond}
+use mathlib.Core.Bool.{false}
 use mathlib.Core.List.{List, [], _++_, append-assoc, append-nil}
 use native.Mathlib.Omega.{arith}
-use lib.Dec.{ltb}
 use lib.ListN.{length, getD, take, drop, replicate, length-replicate, drop-of-length-le}
 use lib.Seq.{sets, sets-eq, take-append-seam}
-use borrow.Author.Tests.{ltb-false, ne-eqb, le-ltb}
+use borrow.Author.Tests.{ne-eqb, le-ltb}
 use Rattle.effect.specs.Inner.{InRange}
 use Rattle.machine.specs.declared.Machine.{Machine}
-use Rattle.machine.specs.State.{mostCells, badCells, badSettings}
+use Rattle.machine.specs.State.{mostCells, badCells}
 use Rattle.job.specs.Job.{nothingYet, Content, unnamed, refusalIn, loadOf}
-use Rattle.job.specs.Saving.{recordOf, runsFrom, valuesFrom, setupOf, savedOf, Save, unsaved, saveOf}
+use Rattle.saver.specs.Saving.{recordOf, runsFrom, valuesFrom, setupOf, savedOf, saveOf}
+use Rattle.saver.proofs.Saving.{done}
 use Rattle.machine.proofs.Checks.{not-above}
 use Rattle.job.proofs.Lawful.{in-range}
 use Rattle.demand.specs.Reload.{Held, Saveable, reloaded}
@@ -61,26 +61,6 @@ module _ (m : Machine) (cells : List ℕ) (held : Held m cells) (settled : InRan
 pub reload : (m : Machine) (cells before : List ℕ) → Saveable m cells → length before ≡ length cells → loadOf (savedOf m cells) before ≡ reloaded m cells
 reload m cells before s e =
     back m cells (s .held) (s .settled) (rw (ne-eqb (length cells) 0 (λ z. omega (arith, s .some)), le-ltb mostCells (length cells) (s .few))) before e
-
--- A save that is not refused is past its tests, and its job stands in the room.
-module _ (m : Machine) (cells room : List ℕ) where
-  tested : (t : Bool) (k : ℕ) (o : Save) → (k ≡ 0 → ⊥) → cond t (unsaved k room) o .number ≡ 0 → (t ≡ false) × (o .number ≡ 0) × (cond t (unsaved k room) o ≡ o)
-  tested true k o n h = absurd (n h)
-  tested false k o n h = (refl, h, refl)
-
-  record Done : Type 0 where
-    fine : badCells (length cells) ≡ false
-    settled : badSettings (m .settings) ≡ false
-    fits : length (savedOf m cells) ≤ length room
-    saved : saveOf m cells room ≡ record { room = sets room 0 (savedOf m cells); number = 0; length = length (savedOf m cells) }
-
-  done : saveOf m cells room .number ≡ 0 → Done
-  unfolding saveOf
-  done h =
-      let a = tested (badCells (length cells)) 12 _ (λ e. omega arith) h in
-      let b = tested (badSettings (m .settings)) 10 _ (λ e. omega arith) (a .1) in
-      let c = tested (ltb (length room) (length (savedOf m cells))) 48 _ (λ e. omega arith) (b .1) in
-      record { fine = a .0; settled = b .0; fits = ltb-false (length room) (length (savedOf m cells)) (c .0); saved = a .2 ∙ b .2 ∙ c .2 }
 
 -- The bytes that a save wrote, loaded into as many cells, give that machine and those cells.
 pub save-reload : (m : Machine) (cells room before : List ℕ) → Held m cells → length before ≡ length cells → saveOf m cells room .number ≡ 0

@@ -4,6 +4,4 @@ pub mod Walk
 pub mod Words
 pub mod Loading
 pub mod Lawful
-pub mod Pieces
-pub mod Saving
 pub mod Named

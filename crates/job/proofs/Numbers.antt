@@ -5,8 +5,8 @@ use mathlib.Core.Path.{_≡_, refl, sym, ap, _∙_}
 use mathlib.Core.List.{List, [], _∷_, _++_}
 use native.Mathlib.Nat.{add-zero, sub-zero}
 use native.Mathlib.Omega.{arith}
-use lib.ListN.{length, getD, set, take, drop}
-use lib.Seq.{sets, drop-cons}
+use lib.ListN.{length, getD, take, drop}
+use lib.Seq.{drop-cons}
 use Rattle.job.specs.Job.{littleOf, bytesOf, numberAt}
 
 -- a list of bytes, and its parts
@@ -73,19 +73,6 @@ number-none l at width = let w : width - width ≡ 0 = omega arith in rw w
 
 pub number-over : (l : List ℕ) (at width i v : ℕ) → v ≡ numberAt (at + i) (width - i) l → i ≤ 0 → v ≡ numberAt at width l
 number-over l at width i v e h = let z : i ≡ 0 = omega arith in e ∙ rw (z, add-zero, sub-zero)
-
--- one byte stored
-pub put-turn : (room : List ℕ) (at width i v : ℕ) → i < width
-    → sets (set room (at + i) (v % 256)) (at + (i + 1)) (bytesOf (width - (i + 1)) (v / 256)) ≡ sets room (at + i) (bytesOf (width - i) v)
-unfolding bytesOf
-put-turn room at width i v h =
-    let w : width - i ≡ suc (width - (i + 1)) = omega arith in
-    let n : at + (i + 1) ≡ suc (at + i) = omega arith in
-    rw (w, n)
-
-pub put-over : (room : List ℕ) (at width i v : ℕ) → width ≤ i → room ≡ sets room (at + i) (bytesOf (width - i) v)
-unfolding bytesOf
-put-over room at width i v h = let w : width - i ≡ 0 = omega arith in rw w
 
 -- a number is read as it was written
 pub length-bytes : (w v : ℕ) → length (bytesOf w v) ≡ w

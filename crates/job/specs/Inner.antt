@@ -1,12 +1,10 @@
 -- What only the contracts of private functions cite, each a short way to name what the definitions make: nothing here is promised.
 use mathlib.Core.Path.{_≡_}
-use Prim.Native.Nat.{ℕ, suc, _+_, _^_, _<_}
-use mathlib.Core.Bool.{true, cond}
+use Prim.Native.Nat.{ℕ}
+use mathlib.Core.Bool.{true}
 use mathlib.Core.Option.{Option, none, some}
-use mathlib.Core.List.{List, [], _∷_}
-use lib.Dec.{eqb}
+use mathlib.Core.List.{List}
 use lib.ListN.{length}
-use lib.Seq.{sets}
 use Rattle.effect.specs.declared.Settings.{Settings}
 use Rattle.job.specs.declared.Answer.{Answer}
 use Rattle.job.specs.declared.Answer.the-variants.{Done, Refused}
@@ -33,17 +31,3 @@ contentWith regs s cells = record { regs = regs; settings = s; cells = cells }
 pub record Sound (m : ℕ) (kind : Kind) (payload : List ℕ) : Type 0 where
   pub fits : fitsOf kind (length payload) ≡ true
   pub within : withinOf m kind payload ≡ true
-
--- A piece is stored from a place on, as far as the room goes, and ends where the next begins.
-pub record Stored (before : List ℕ) (at : ℕ) (piece : List ℕ) (after : List ℕ) (next : ℕ) : Type 0 where
-  pub end : next ≡ at + length piece
-  pub text : after ≡ sets before at piece
-
--- a place past the piece is a number of the code
-abbrev pub Fits : ℕ → List ℕ → Type 0
-Fits at piece = at + length piece < 2 ^ 64
-
--- how many cells stand before the first that is 0
-unfoldable pub spanOf : List ℕ → ℕ
-spanOf [] = 0
-spanOf (v ∷ cells) = cond (eqb v 0) 0 (suc (spanOf cells))

@@ -1,20 +1,16 @@
-// Jobs: a machine and its cells as records of bytes, loaded and saved.
+// Jobs: a machine and its cells as records of bytes, loaded.
 ghost use mathlib.Core.Path.{_≡_};
 ghost use Rattle.job.specs.Job.{numberOf, loadOf, loadWith};
-ghost use Rattle.job.specs.Saving.{saveOf, saveWith};
 
 mod little;
 mod reading;
 mod records;
-mod writing;
 
 use machine::Machine;
 use machine::enough_cells;
-use machine::in_range;
 use reading::carry_out;
 use reading::clear;
 use reading::examine;
-use writing::put_job;
 
 // Why a load or a save is refused: 10, 12 and 41 to 48, in this order.
 pub enum Refusal {
@@ -62,12 +58,6 @@ pub struct Loaded {
     pub answer: Answer,
 }
 
-// What a save answers: the length written, or a refusal.
-pub enum Saved {
-    Written(usize),
-    Unsaved(Refusal),
-}
-
 // A job into the cells that the host lends: the machine and the cells that it holds, or the first refusal with nothing written.
 pub fn load(job: &[u8], cells: &mut [u32]) -> Loaded
     ensures { λ r. ⌜ loadWith r (now (cells .exit)) ≡ loadOf (now (job .entry)) (now (cells .entry)) ⌝ }
@@ -101,23 +91,4 @@ pub fn load(job: &[u8], cells: &mut [u32]) -> Loaded
             }
         }
     }
-}
-
-// A machine and its cells as a job in the room that the host lends: its length, or a refusal with nothing written. The job's size is what
-// the writer answers where it finds no room.
-pub fn save(machine: Machine, cells: &[u32], room: &mut [u8]) -> Saved
-    ensures { λ r. ⌜ saveWith r (now (room .exit)) ≡ saveOf machine (now (cells .entry)) (now (room .entry)) ⌝ }
-{
-    if !enough_cells(cells.len()) {
-        return Saved::Unsaved(Refusal::Cells);
-    }
-    if !in_range(machine.settings) {
-        return Saved::Unsaved(Refusal::Unsettled);
-    }
-    let size = put_job(&mut room[0..0], machine, cells);
-    if room.len() < size {
-        return Saved::Unsaved(Refusal::Room);
-    }
-    put_job(room, machine, cells);
-    Saved::Written(size)
 }

@@ -1,22 +1,19 @@
 -- What loads and saves say, as text, by their answers; and a saved job lies in its room.
 -- Assumes nothing.
 use Prim.Native.Nat.{ℕ, _≤_}
-use mathlib.Core.Path.{_≡_, refl, sym, ap, subst, _∙_}
+use mathlib.Core.Path.{_≡_, refl, sym, ap, _∙_}
 use mathlib.Core.List.{List, [], _++_}
 use native.Mathlib.Omega.{arith}
-use lib.Dec.{ltb}
 use lib.ListN.{length, take, replicate}
-use lib.Seq.{length-sets}
-use borrow.Author.Tests.{ltb-false}
-use Rattle.effect.proofs.Safe.{picked}
+use lib.Seq.{sets, length-sets}
 use Rattle.machine.specs.declared.Machine.{Machine}
-use Rattle.machine.specs.State.{badCells, badSettings}
 use Rattle.job.specs.declared.Refusal.{Refusal}
 use Rattle.job.specs.declared.Answer.the-variants.{Refused}
-use Rattle.job.specs.declared.Saved.{Saved}
-use Rattle.job.specs.declared.Saved.the-variants.{Written, Unsaved}
+use Rattle.saver.specs.declared.Saved.{Saved}
+use Rattle.saver.specs.declared.Saved.the-variants.{Written, Unsaved}
 use Rattle.job.specs.Job.{numberOf, saidOf, loadOf}
-use Rattle.job.specs.Saving.{Save, savedOf, saveOf, saveWith}
+use Rattle.saver.specs.Saving.{Save, savedOf, saveOf, saveWith}
+use Rattle.saver.proofs.Saving.{done}
 use Rattle.job.proofs.Named.{numbered}
 use Rattle.outcome.specs.Outcome.{refusedText}
 use Rattle.trials.specs.Texts.{lineText}
@@ -39,18 +36,10 @@ pub unsaved-again : (r : Saved) (why : Refusal) (room : List ℕ) (m : ℕ) → 
 unsaved-again r why room m e = rw (e, numbered why)
 
 -- a saved job lies in its room
-abbrev Fits : Save → Type 0
-Fits s = s .number ≡ 0 → s .length ≤ length (s .room)
-
-save-fits : (m : Machine) (cells room : List ℕ) → Fits (saveOf m cells room)
-unfolding saveOf
-save-fits m cells room =
-    picked Fits (badCells (length cells)) _ _ (λ t e. absurd (omega (arith, e))) (λ t.
-    picked Fits (badSettings (m .settings)) _ _ (λ t e. absurd (omega (arith, e))) (λ t.
-    picked Fits (ltb (length room) (length (savedOf m cells))) _ _ (λ t e. absurd (omega (arith, e)))
-    (λ t e. omega (arith, ltb-false (length room) (length (savedOf m cells)) t, length-sets room 0 (savedOf m cells)))))
-
 pub saved-within : (m : Machine) (cells before room : List ℕ) (r : Saved) (n : ℕ) → saveWith r room ≡ saveOf m cells before → r ≡ Written n → n ≤ length room
 saved-within m cells before room r n e w =
     let f : saveWith (Written n) room ≡ saveOf m cells before = ap (λ (x : Saved). saveWith x room) (sym w) ∙ e in
-    subst Fits (sym f) (save-fits m cells before) refl
+    let d = done m cells before (ap (λ (s : Save). s .number) (sym f)) in
+    let size : n ≡ length (savedOf m cells) = ap (λ (s : Save). s .length) (f ∙ d .saved) in
+    let kept : room ≡ sets before 0 (savedOf m cells) = ap (λ (s : Save). s .room) (f ∙ d .saved) in
+    omega (arith, d .fits, size, ap length kept ∙ length-sets before 0 (savedOf m cells))

@@ -6,7 +6,7 @@ use lib.Dec.{eqb}
 use lib.ListN.{length, take, replicate}
 use Rattle.machine.specs.declared.Machine.{Machine}
 use Rattle.job.specs.Job.{Said, Load, loadOf}
-use Rattle.job.specs.Saving.{Save, saveOf}
+use Rattle.saver.specs.Saving.{Save, saveOf}
 use Rattle.outcome.specs.Outcome.{refusedText, outcomeOf}
 use Rattle.text.specs.Text.{bytes}
 use Rattle.trials.specs.Texts.{lineText}

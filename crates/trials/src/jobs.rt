@@ -3,7 +3,7 @@ ghost use mathlib.Core.List.{[]};
 ghost use lib.ListN.{length, replicate};
 ghost use Rattle.text.specs.Text.{Added};
 ghost use Rattle.job.specs.Job.{saidOf, loadWith, loadOf};
-ghost use Rattle.job.specs.Saving.{saveWith};
+ghost use Rattle.saver.specs.Saving.{saveWith};
 ghost use Rattle.trials.specs.Jobs.{answerText, loadText, toldText, saveText, savedText, jobText, savingText, runText};
 use crate::lines::put_line;
 use crate::machines::machine_of;
@@ -15,8 +15,8 @@ use crate::wholes::fill;
 use crate::wholes::fill_bytes;
 use job::Answer;
 use job::Loaded;
-use job::Saved;
 use machine::Machine;
+use saver::Saved;
 use text::put;
 use text::put_number;
 
@@ -76,7 +76,7 @@ fn put_saved(text: &mut [u8], at: usize, m: Machine, cells: &mut [u32], room: &m
     ensures { λ r. ⌜ Added (now (text .entry)) at (savedText m (now (cells .entry)) (length (now (room .entry)))) (now (text .exit)) r ⌝ }
 {
     fill_bytes(room, 170);
-    let saved = job::save(m, cells, room);
+    let saved = saver::save(m, cells, room);
     let end = put_save(text, at, saved, room);
     match saved {
         Saved::Written(size) => put_loaded(text, end, &room[..size], cells, 1431655765),
@@ -113,7 +113,7 @@ pub(crate) fn put_saving(
     let parts = parts_of(payload);
     set_up(cells, payload, parts.cells);
     fill_bytes(room, 170);
-    let saved = job::save(machine_of(payload), cells, room);
+    let saved = saver::save(machine_of(payload), cells, room);
     put_save(text, at, saved, room)
 }
 
