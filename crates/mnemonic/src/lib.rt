@@ -1,6 +1,6 @@
 // The words that begin a line, each a mnemonic and a space, put into lent room.
 ghost use mathlib.Core.Path.{_≡_};
-ghost use Prim.Native.Nat.{ℕ, _+_, _*_, _<_};
+ghost use Prim.Native.Nat.{_+_, _*_, _<_};
 ghost use lib.ListN.{length, drop};
 ghost use Rattle.text.specs.Text.{Added};
 ghost use Rattle.mnemonic.specs.Mnemonic.{wordOf};

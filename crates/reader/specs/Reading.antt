@@ -1,6 +1,6 @@
 -- How a text is taken apart from the front. The private functions of reading answer as these definitions do; what `read` promises
 -- is stated by the printed line alone, in Reader.antt.
-use mathlib.Core.Bool.{Bool, true, false, cond, _&&_}
+use mathlib.Core.Bool.{Bool, cond, _&&_}
 use mathlib.Core.List.{List, [], _∷_}
 use Prim.Native.Nat.{ℕ, zero, suc, _+_, _-_, _*_}
 use lib.Dec.{leb, ltb, eqb}

@@ -1,4 +1,4 @@
--- `mnemonic::put_word` meets its contract: what is put is the word, the first bytes of its row.
+-- `mnemonic::put_word` meets its contract: what is put is the word, the first bytes of its row, or past the table CELL.
 use native.Mathlib.Omega.{arith}
 use borrow.Author.Needs.{needs}
 use Rattle.mnemonic.specs.Mnemonic.{mnemonics}
