@@ -17,9 +17,11 @@ use Rattle.cell.proofs.RoundTrip as cells
 use Rattle.text.specs.Text.{Added}
 use Rattle.text.proofs.Adds as text
 use Rattle.line.specs.declared.Printed.{Printed}
-use Rattle.line.specs.declared.ReadLine.{ReadLine}
 use Rattle.line.specs.Line as line
 use Rattle.line.proofs.Lines as lines
+use Rattle.reader.specs.declared.ReadLine.{ReadLine}
+use Rattle.reader.specs.Reader as reader
+use Rattle.reader.proofs.RoundTrip as trips
 use Rattle.effect.specs.declared.Settings.{Settings}
 use Rattle.effect.specs.declared.execute.Considered.{Considered}
 use Rattle.effect.specs.Inner.{atLength, consideredOf}
@@ -62,7 +64,7 @@ decode-once c r t = unique
 pub encode-once : (opcode : ℕ) (o : Operands) (r t : Encoded) → cell.saidOf r ≡ cell.encodeOf opcode o → cell.saidOf t ≡ cell.encodeOf opcode o → r ≡ t
 encode-once opcode o r t p q = cells.said-once r t (unique p q)
 
--- what is put into a text, whatever the piece: `put`, `put_decimal`, `put_number`
+-- what is put into a text, whatever the piece: `put`, `put_decimal`, `put_number`, `put_word`
 pub put-once : {before piece after after' : List ℕ} {at r t : ℕ} → Added before at piece after r → Added before at piece after' t → (after ≡ after') × (r ≡ t)
 put-once = text.once
 
@@ -71,8 +73,8 @@ pub print-once : (c : ℕ) (before : List ℕ) (r t : Printed) (room room' : Lis
 print-once c before r t room room' p q = lines.print-once r t room room' (unique p q)
 
 -- a cell that is read is one of 32 bits
-pub read-once : (text : List ℕ) (r t : ReadLine) → lines.Small r → line.Reads text (line.saidOf r) → line.Reads text (line.saidOf t) → r ≡ t
-read-once = lines.read-once
+pub read-once : (text : List ℕ) (r t : ReadLine) → trips.Small r → reader.Reads text (reader.saidOf r) → reader.Reads text (reader.saidOf t) → r ≡ t
+read-once = trips.read-once
 
 -- the stop or the effect, whether it is said in short or at length
 pub consider-once : (c : ℕ) (regs cells : List ℕ) (s : Settings) (r t : Considered)

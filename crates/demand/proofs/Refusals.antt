@@ -13,9 +13,10 @@ use Rattle.cell.specs.declared.Form.the-variants as form
 use Rattle.cell.specs.declared.Operands.{Operands}
 use Rattle.cell.specs.declared.Operands.the-variants as operands
 use Rattle.cell.specs.Cell as cell
-use Rattle.line.specs.declared.ReadLine.{ReadLine}
-use Rattle.line.specs.declared.ReadLine.the-variants.{Cell, NoLine}
 use Rattle.line.specs.Line as line
+use Rattle.reader.specs.declared.ReadLine.{ReadLine}
+use Rattle.reader.specs.declared.ReadLine.the-variants.{Cell, NoLine}
+use Rattle.reader.specs.Reader as reader
 use Rattle.effect.proofs.Safe.{picked}
 use Rattle.machine.specs.declared.Machine.{Machine}
 use Rattle.machine.specs.State.{badCells, badSettings}
@@ -38,7 +39,7 @@ unfolding line.printOf listed
 print-said c room = picked (λ (s : line.Shown). listed printSays (s .number) ≡ true) (leb (length (line.lineOf c)) (length room)) _ _ (λ t. refl) (λ t. refl)
 
 -- what reading says is by its contract an answer's number
-pub read-said : (r : ReadLine) → listed readSays (line.saidOf r .number) ≡ true
+pub read-said : (r : ReadLine) → listed readSays (reader.saidOf r .number) ≡ true
 unfolding listed
 read-said (Cell c) = refl
 read-said NoLine = refl

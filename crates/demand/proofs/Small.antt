@@ -5,7 +5,8 @@ use mathlib.Core.Bool.{true}
 use Rattle.word.specs.Word.{seOf, exOf, writtenOf, opOf, askedOf}
 use Rattle.cell.specs.Cell.{legal, immediate, formOf, decodeOf}
 use Rattle.text.specs.Text.{digits, decimal}
-use Rattle.line.specs.Line.{mnemonics, wordOf, lineOf}
+use Rattle.mnemonic.specs.Mnemonic.{mnemonics, wordOf}
+use Rattle.line.specs.Line.{lineOf}
 use Rattle.effect.specs.Operands.{operandOf}
 use Rattle.effect.specs.Effect.{flagsOf, operationOf, loadOf, ldstOf, bzOf, registersOf, immediateOf, effectOf, behindOf}
 use Rattle.effect.specs.Refusal.{refusedBy}

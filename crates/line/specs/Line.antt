@@ -1,44 +1,16 @@
 -- A cell as a line of text: document 01, 'Lines and jobs'.
-use mathlib.Core.Path.{_≡_}
-use mathlib.Core.Logic.{_↔_}
 use mathlib.Core.Bool.{cond}
-use mathlib.Core.List.{List, [], _∷_, _++_}
-use Prim.Native.Nat.{ℕ, _^_, _<_}
-use Prim.Native.String.{String}
+use mathlib.Core.List.{List, _++_}
+use Prim.Native.Nat.{ℕ}
 use lib.Dec.{leb}
-use lib.ListN.{length, getD, drop}
+use lib.ListN.{length, drop}
 use Rattle.cell.specs.declared.Instruction.{Instruction}
 use Rattle.cell.specs.declared.Instruction.the-variants.{Registers, Immediate, Reserved}
-use Rattle.cell.specs.Cell.{Said, decodeOf}
-use Rattle.text.specs.Text.{bytes, decimal, named}
+use Rattle.cell.specs.Cell.{decodeOf}
+use Rattle.text.specs.Text.{bytes, named}
+use Rattle.mnemonic.specs.Mnemonic.{wordOf}
 use Rattle.line.specs.declared.Printed.{Printed}
 use Rattle.line.specs.declared.Printed.the-variants.{Length, NoRoom}
-use Rattle.line.specs.declared.ReadLine.{ReadLine}
-use Rattle.line.specs.declared.ReadLine.the-variants.{Cell, NoLine}
-
--- The mnemonics in opcode order, eight to a row, from the source's headings. A reserved cell prints as `CELL 33554432`.
-unfoldable pub mnemonics : List String
-mnemonics =
-    "CPSWP" ∷ "LDST" ∷ "CELL" ∷ "LDLI" ∷ "LDUI" ∷ "LDLIZ" ∷ "LDLISE" ∷ "LDLIF" ∷
-    "CELL" ∷ "CELL" ∷ "CELL" ∷ "CELL" ∷ "CELL" ∷ "CELL" ∷ "CELL" ∷ "CELL" ∷
-    "ADD" ∷ "ADC" ∷ "SUB" ∷ "SBB" ∷ "MUL" ∷ "UDIV" ∷ "SDIV" ∷ "MOD" ∷
-    "AND" ∷ "OR" ∷ "XOR" ∷ "NAND" ∷ "LNAND" ∷ "LSH" ∷ "URSH" ∷ "SRSH" ∷
-    "UGT" ∷ "SGT" ∷ "EQ" ∷ "ADDI" ∷ "ADCI" ∷ "SUBI" ∷ "SBBI" ∷ "MULI" ∷
-    "UDIVI" ∷ "SDIVI" ∷ "MODI" ∷ "ANDI" ∷ "ORI" ∷ "XORI" ∷ "LSHI" ∷ "URSHI" ∷
-    "SRSHI" ∷ "UGTI" ∷ "SGTI" ∷ "EQI" ∷ "ULTI" ∷ "SLTI" ∷ "SPLIT" ∷ "CELL" ∷
-    "CELL" ∷ "CELL" ∷ "CELL" ∷ "CELL" ∷ "CELL" ∷ "CELL" ∷ "CELL" ∷ "CELL" ∷
-    "CELL" ∷ "CELL" ∷ "CELL" ∷ "CELL" ∷ "CELL" ∷ "CELL" ∷ "CELL" ∷ "CELL" ∷
-    "CELL" ∷ "CELL" ∷ "CELL" ∷ "CELL" ∷ "CELL" ∷ "CELL" ∷ "CELL" ∷ "CELL" ∷
-    "FADD" ∷ "FSUB" ∷ "FMUL" ∷ "FDIV" ∷ "FMOD" ∷ "FEXP" ∷ "FLOG" ∷ "FSIN" ∷
-    "FASIN" ∷ "FGT" ∷ "FEQ" ∷ "I2F" ∷ "F2I" ∷ "FADDI" ∷ "FSUBI" ∷ "FMULI" ∷
-    "FDIVI" ∷ "FMODI" ∷ "FEXPI" ∷ "FLOGI" ∷ "FSINI" ∷ "FASINI" ∷ "FGTI" ∷ "FEQI" ∷
-    "FLTI" ∷ "II2F" ∷ "IF2I" ∷ "FSPLIT" ∷ "CELL" ∷ "CELL" ∷ "CELL" ∷ "CELL" ∷
-    "CELL" ∷ "CELL" ∷ "CELL" ∷ "CELL" ∷ "CELL" ∷ "CELL" ∷ "CELL" ∷ "CELL" ∷
-    "CELL" ∷ "BZ" ∷ "INT" ∷ []
-
--- a mnemonic, a space
-unfoldable pub wordOf : ℕ → List ℕ
-wordOf x = bytes (getD mnemonics x "CELL") ++ bytes " "
 
 -- A line is a mnemonic, a space, operands joined by ", ", and LF: `ADD R1, R2, R3`, `ADDI R5, #65533`.
 -- A reserved cell prints as `CELL 33554432` and LF.
@@ -71,13 +43,3 @@ placed line room =
 
 unfoldable pub printOf : ℕ → List ℕ → Shown
 printOf c room = placed (lineOf c) room
-
--- the paper's number of each answer of reading, and its cell
-abbrev pub saidOf : ReadLine → Said
-saidOf (Cell c) = record { number = 0; cell = c }
-saidOf NoLine = record { number = 30; cell = 0 }
-
--- The reader refuses 30 exactly if its input is no cell's printed line, and answers the cell of that line otherwise.
-pub record Reads (text : List ℕ) (said : Said) : Type 0 where
-  pub cell : (c : ℕ) → c < 2 ^ 32 → (said ≡ record { number = 0; cell = c }) ↔ (text ≡ lineOf c)
-  pub refused : (said ≡ record { number = 30; cell = 0 }) ↔ ((c : ℕ) → c < 2 ^ 32 → text ≡ lineOf c → ⊥)

@@ -8,7 +8,8 @@ use lib.ListN.{length, getD, take, drop, replicate}
 use Rattle.cell.specs.declared.Operands.{Operands}
 use Rattle.cell.specs.declared.Operands.the-variants.{Registers, Immediate}
 use Rattle.cell.specs.Cell.{decodeOf, encodeOf}
-use Rattle.line.specs.Line.{Reads, printOf}
+use Rattle.line.specs.Line.{printOf}
+use Rattle.reader.specs.Reader.{Reads}
 use Rattle.cell.specs.Cell.{Said}
 use Rattle.text.specs.Text.{Added}
 use Rattle.trials.specs.Payload.{halfAt, wordAt}

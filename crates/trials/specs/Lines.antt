@@ -2,7 +2,7 @@
 use mathlib.Core.List.{List}
 use Prim.Native.Nat.{ℕ}
 use Rattle.cell.specs.Cell.{Said}
-use Rattle.line.specs.Line.{Reads}
+use Rattle.reader.specs.Reader.{Reads}
 use Rattle.text.specs.Text.{Added}
 use Rattle.trials.specs.Texts.{saidText}
 

@@ -11,7 +11,7 @@ ghost use Rattle.trials.specs.Lines.{ReadAnswer};
 use cell::Encoded;
 use cell::Instruction;
 use line::Printed;
-use line::ReadLine;
+use reader::ReadLine;
 use text::put;
 use text::put_number;
 
@@ -80,7 +80,7 @@ pub(crate) fn put_encoded(text: &mut [u8], at: usize, encoded: Encoded) -> usize
 pub(crate) fn put_read(text: &mut [u8], at: usize, payload: &[u8]) -> usize
     ensures { λ r. ⌜ ReadAnswer (now (payload .entry)) (now (text .entry)) at (now (text .exit)) r ⌝ }
 {
-    let said = line::read(payload);
+    let said = reader::read(payload);
     match said {
         ReadLine::Cell(cell) => put_line(text, at, b"cell ", cell as u64),
         ReadLine::NoLine => put_line(text, at, b"refused ", 30),

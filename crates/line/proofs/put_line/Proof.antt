@@ -3,7 +3,7 @@ use mathlib.Core.Path.{_≡_, sym, _∙_}
 use borrow.Author.Needs.{needs}
 use Rattle.cell.specs.declared.Instruction.the-variants.{Registers, Immediate, Reserved}
 use Rattle.cell.specs.Cell.{decodeOf}
-use Rattle.line.proofs.Sizes.{decoded-sized, line-spelled}
+use Rattle.line.proofs.Sizes.{line-spelled}
 use Rattle.line.proofs.put_line.Statement.{statement}
 use Rattle.line.proofs.put_line.Tie as tie
 
@@ -23,13 +23,13 @@ enum-known-instruction : tie.Need-enum-known-instruction
 enum-known-instruction c = search needs
 
 put-registers-requires : tie.Need-put-registers-requires
-put-registers-requires c κs = decoded-sized (c .before .before .before .before .before .args .cell) (c .before .before .before .before .before .fits .cell .fits) (decoded (c .before)) .0
+put-registers-requires c κs = search needs
 
 enum-known-instruction-2 : tie.Need-enum-known-instruction-2
 enum-known-instruction-2 c = search needs
 
 put-immediate-requires : tie.Need-put-immediate-requires
-put-immediate-requires c κs = decoded-sized (c .before .before .before .before .before .args .cell) (c .before .before .before .before .before .fits .cell .fits) (decoded-2 (c .before)) .0
+put-immediate-requires c κs = search needs
 
 enum-known-instruction-3 : tie.Need-enum-known-instruction-3
 enum-known-instruction-3 c = search needs

@@ -1,5 +1,5 @@
 -- `trials::lines::put_read` meets its contract: the cell or the refusal has its line.
-use Rattle.line.specs.Line.{saidOf}
+use Rattle.reader.specs.Reader.{saidOf}
 use borrow.Author.Needs.{needs}
 use Rattle.trials.proofs.lines.put_read.Statement.{statement}
 use Rattle.trials.proofs.lines.put_read.Tie as tie

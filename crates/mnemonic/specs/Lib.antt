@@ -1,0 +1,2 @@
+pub mod Mnemonic
+pub mod Inner

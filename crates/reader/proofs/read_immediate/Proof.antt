@@ -1,0 +1,97 @@
+-- `reader::read_immediate` meets its contract: each field found or missing is the definition's.
+use mathlib.Core.Path.{_≡_, sym, ap, _∙_}
+use native.Mathlib.Omega.{arith}
+use borrow.Author.Needs.{needs}
+use lib.Dec.{lit<}
+use lib.ListN.{drop}
+use Rattle.cell.specs.Cell.{Said, encodeOf}
+use Rattle.cell.specs.declared.Operands.the-variants as operands
+use Rattle.text.specs.Text.{bytes}
+use Rattle.reader.specs.Reading.{seen, taken, missing, fieldOf, finished, immediateOf}
+use Rattle.reader.proofs.Numbers.{field-true}
+use Rattle.reader.proofs.read_immediate.Statement.{statement}
+use Rattle.reader.proofs.read_immediate.Tie as tie
+
+-- what each field's answer says of the text
+got-n : (c : tie.After-known-told) → fieldOf (bytes "R") 255 (drop (c .before .before .before .before .before .before .args .at) (c .before .before .before .before .before .before .args .text .now)) ≡ taken (c .before .n .given .0 .0) (drop (c .before .n .given .0 .1 .0) (c .before .before .before .before .before .before .args .text .now))
+got-n c = sym (c .before .before .before .field .ensures) ∙ ap (seen (c .before .before .before .before .before .before .args .text .now)) (c .before .n .given .1)
+
+got-imm : (c : tie.After-known-told2) → fieldOf (bytes ", #") 65535 (drop (c .before .before .before .before .before .before .n .given .0 .1 .0) (c .before .before .before .before .before .before .before .before .before .before .before .args .text .now)) ≡ taken (c .before .imm .given .0 .0) (drop (c .before .imm .given .0 .1 .0) (c .before .before .before .before .before .before .before .before .before .before .before .args .text .now))
+got-imm c = sym (c .before .before .before .field2 .ensures) ∙ ap (seen (c .before .before .before .before .before .before .before .before .before .before .before .args .text .now)) (c .before .imm .given .1)
+
+none-1 : (c : tie.After-enum-told) → fieldOf (bytes "R") 255 (drop (c .before .before .before .before .before .args .at) (c .before .before .before .before .before .args .text .now)) ≡ missing
+none-1 c = sym (c .before .before .field .ensures) ∙ ap (seen (c .before .before .before .before .before .args .text .now)) (c .enum-told .given .1)
+
+none-2 : (c : tie.After-enum-told2) → fieldOf (bytes ", #") 65535 (drop (c .before .before .before .before .before .n .given .0 .1 .0) (c .before .before .before .before .before .before .before .before .before .before .args .text .now)) ≡ missing
+none-2 c = sym (c .before .before .field2 .ensures) ∙ ap (seen (c .before .before .before .before .before .before .before .before .before .before .args .text .now)) (c .enum-told2 .given .1)
+
+whole : (c : tie.After-known-told2) → immediateOf (c .before .before .before .before .before .before .before .before .before .before .before .args .opcode) (drop (c .before .before .before .before .before .before .before .before .before .before .before .args .at) (c .before .before .before .before .before .before .before .before .before .before .before .args .text .now)) ≡ finished (encodeOf (c .before .before .before .before .before .before .before .before .before .before .before .args .opcode) (operands.Immediate (c .before .before .before .before .before .before .n .given .0 .0) (c .before .imm .given .0 .0))) (drop (c .before .imm .given .0 .1 .0) (c .before .before .before .before .before .before .before .before .before .before .before .args .text .now))
+unfolding immediateOf
+whole c = rw (got-n (c .before .before .before .before .before), got-imm c)
+
+slice-aggregate-field : tie.Need-slice-aggregate-field
+slice-aggregate-field c = search needs
+
+field-requires : tie.Need-field-requires
+field-requires c κs = search needs
+
+enum-known-n : tie.Need-enum-known-n
+enum-known-n c = search needs
+
+enum-told : tie.Need-enum-told
+enum-told c = search needs
+
+returns : tie.Need-returns
+unfolding immediateOf
+returns c = rw (none-1 c)
+
+slice-aggregate-field-2 : tie.Need-slice-aggregate-field-2
+slice-aggregate-field-2 c = search needs
+
+field-requires-2 : tie.Need-field-requires-2
+field-requires-2 c κs = search needs
+
+enum-known-imm : tie.Need-enum-known-imm
+enum-known-imm c = search needs
+
+enum-told-2 : tie.Need-enum-told-2
+enum-told-2 c = search needs
+
+returns-2 : tie.Need-returns-2
+unfolding immediateOf
+returns-2 c = rw (got-n (c .before .before .before .before), none-2 c)
+
+cast-n : tie.Need-cast-n
+cast-n c = omega (arith, field-true 255 (lit< tt) _ _ (got-n (c .before .before .before .before .before)) .1)
+
+cast-imm : tie.Need-cast-imm
+cast-imm c = omega (arith, field-true 65535 (lit< tt) _ _ (got-imm c) .1)
+
+encode-requires : tie.Need-encode-requires
+encode-requires c κs = search needs
+
+finish-requires : tie.Need-finish-requires
+finish-requires c κs = search needs
+
+returns-3 : tie.Need-returns-3
+returns-3 c = c .finish .ensures ∙ ap (λ (e : Said). finished e (drop (c .before .before .before .imm .given .0 .1 .0) (c .before .before .before .before .before .before .before .before .before .before .before .before .before .args .text .now))) (c .before .encode .ensures) ∙ sym (whole (c .before .before))
+
+pub read-immediate-spec : {M : Type 1} → statement M
+read-immediate-spec =
+    tie.close
+    (tie.spec
+    slice-aggregate-field
+    field-requires
+    enum-known-n
+    enum-told
+    returns
+    slice-aggregate-field-2
+    field-requires-2
+    enum-known-imm
+    enum-told-2
+    returns-2
+    cast-n
+    cast-imm
+    encode-requires
+    finish-requires
+    returns-3)
