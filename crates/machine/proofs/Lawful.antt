@@ -1,6 +1,6 @@
 -- What a call takes and leaves, and a list of 32-bit words.
 -- Assumes nothing.
-use Prim.Native.Nat.{ℕ, _^_, _<_}
+use Prim.Native.Nat.{ℕ, _^_, _≤_, _<_}
 use mathlib.Core.Path.{_≡_, refl}
 use mathlib.Core.Bool.{Bool, true, false}
 use mathlib.Core.List.{List}
@@ -8,8 +8,9 @@ use lib.Dec.{ltb, eqb}
 use lib.ListN.{length, getD, set}
 use lib.Seq.{getD-set-same, getD-set-other, set-out}
 use borrow.Author.Tests.{ltb-true, ltb-false, eqb-true, eqb-false}
-use Rattle.machine.specs.State.{State}
-use Rattle.machine.specs.Inner.{Ready}
+use Rattle.effect.specs.declared.Settings.{Settings}
+use Rattle.effect.specs.Inner.{InRange}
+use Rattle.machine.specs.State.{State, capacityOf}
 
 -- A list of 32-bit words stays one where a word is written.
 abbrev pub Words : List ℕ → Type 0
@@ -22,6 +23,11 @@ set-words l i v w h j = at (eqb j i) refl (ltb i (length l)) refl
     at false q u r = rw (getD-set-other l i j v 0 (eqb-false j i q)) (w j)
     at true q true r = rw (eqb-true j i q, getD-set-same l i v 0 (ltb-true i (length l) r)) h
     at true q false r = rw (set-out l i v (ltb-false i (length l) r)) (w j)
+
+-- a call that is not refused at once
+pub record Ready (s : Settings) (depth : ℕ) (journal : List ℕ) : Type 0 where
+  pub settled : InRange s
+  pub room : depth ≤ capacityOf journal
 
 -- What a call takes and leaves: 256 registers and M cells of 32 bits, settings in range, depth at most J.
 pub record Lawful (s : State) : Type 0 where

@@ -19,13 +19,12 @@ use Rattle.journal.specs.Journal.{writesIn, settledOf, settingsAfter, cellsAfte
 use Rattle.turn.specs.Step.{instructionOf, refusalOf, effectIn, moved, stepOf}
 use Rattle.effect.specs.Refusal.{refusedBy}
 use Rattle.effect.specs.Inner.{InRange}
-use Rattle.machine.specs.Inner.{Ready}
+use Rattle.machine.proofs.Lawful.{Ready, Lawful, Words, set-words}
 use Rattle.cell.proofs.Fields.{decoded-in-range}
 use Rattle.effect.specs.declared.Write.{Write}
 use Rattle.effect.proofs.Safe.{Safe, safe}
 use Rattle.effect.proofs.Ranges.{Ranged, ranged, behind-below}
 use Rattle.journal.proofs.Entry.{Formed, length-regs, lengths}
-use Rattle.machine.proofs.Lawful.{Lawful, Words, set-words}
 
 -- no test of a row stopped
 not-some : {k : ℕ} → some k ≡ none → ⊥
@@ -68,6 +67,7 @@ capacity-sets : (journal words : List ℕ) (i : ℕ) → capacityOf (sets journa
 unfolding capacityOf
 capacity-sets journal words i = rw (length-sets journal i words)
 
+-- settings stay in range, and depth at most J
 ready-after : (s : State) → Ready (s .settings) (s .depth) (s .journal) → Clear s
     → Ready (applyOf (effectIn s) s .settings) (applyOf (effectIn s) s .depth) (applyOf (effectIn s) s .journal)
 unfolding settingsAfter
@@ -76,16 +76,7 @@ ready-after s r c = record {
   room = rw (capacity-sets (s .journal) (entryOf (effectIn s) (s .regs) (s .settings) (s .cells)) (8 * s .depth)) (omega (arith, c .space));
 }
 
-ready-moved : (s : State) (o : Option ℕ) → refusalOf s ≡ o → Ready (s .settings) (s .depth) (s .journal)
-    → Ready (moved o s .state .settings) (moved o s .state .depth) (moved o s .state .journal)
-ready-moved s (some k) e r = r
-ready-moved s none e r = ready-after s r (clear s e)
-
-pub ready-kept : (s : State) → Ready (s .settings) (s .depth) (s .journal)
-    → Ready (stepOf s .state .settings) (stepOf s .state .depth) (stepOf s .state .journal)
-unfolding stepOf
-ready-kept s r = ready-moved s (refusalOf s) refl r
-
+-- writes of 32-bit words keep a list of them one
 writeIf-words : (u : Bool) (l : List ℕ) (i v : ℕ) → Words l → v < 2 ^ 32 → Words (writeIf u l i v)
 writeIf-words true l i v w h = set-words l i v w h
 writeIf-words false l i v w h = w

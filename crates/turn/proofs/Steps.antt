@@ -64,11 +64,6 @@ pub room : (journal : List ℕ) (depth : ℕ) → depth < capacityOf journal →
 unfolding capacityOf
 room journal depth h = omega arith
 
--- J goes by the journal's length alone
-pub as-much : (a b : List ℕ) → length a ≡ length b → capacityOf a ≡ capacityOf b
-unfolding capacityOf
-as-much a b e = rw e
-
 pub few : (journal : List ℕ) (depth : ℕ) → depth < capacityOf journal → depth < 65536
 unfolding capacityOf
 few journal depth h = omega arith
