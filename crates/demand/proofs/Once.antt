@@ -4,6 +4,7 @@
 -- Assumes nothing.
 use Prim.Native.Nat.{ℕ}
 use mathlib.Core.Path.{_≡_, refl, sym, ap, _∙_}
+use mathlib.Core.Bool.{Bool, not}
 use mathlib.Core.Option.{Option, none, some}
 use mathlib.Core.List.{List}
 use Rattle.word.specs.declared.Operated.{Operated}
@@ -28,10 +29,16 @@ use Rattle.effect.specs.Inner.{atLength, consideredOf}
 use Rattle.machine.specs.declared.Machine.{Machine}
 use Rattle.runner.specs.declared.Ran.{Ran}
 use Rattle.machine.specs.declared.Stop.{Stop}
-use Rattle.machine.specs.State.{freshMachine, stateOf}
+use Rattle.machine.specs.State.{State, freshMachine, stateOf, stateWith, badCells, badSettings, capacityOf, writeIf}
+use Rattle.journal.specs.declared.Returned.{Returned}
+use Rattle.journal.specs.Journal.{packedOf, takenBack, returnedOf}
+use Rattle.journal.proofs.Named as returns
+use Rattle.turn.specs.declared.Advanced.{Advanced}
+use Rattle.turn.specs.Step.{advancedTo, stepOf}
+use Rattle.turn.proofs.Named as turns
 use Rattle.machine.specs.Stops.{saidOf}
 use Rattle.runner.specs.Calls.{outOf, runOf, backOf}
-use Rattle.runner.proofs.Named as machine
+use Rattle.runner.proofs.Named as runner
 use Rattle.job.specs.declared.Refusal.{Refusal}
 use Rattle.job.specs.declared.Answer.{Answer}
 use Rattle.job.specs.declared.Answer.the-variants.{Done, Refused}
@@ -87,15 +94,45 @@ fresh-once r t = unique
 pub number-once : (x : Stop) (r t : ℕ) → r ≡ saidOf x .number → t ≡ saidOf x .number → r ≡ t
 number-once x r t = unique
 
+-- the answers on M, on settings and on a journal, and a journal's word of settings
+pub enough-once : (m : ℕ) (r t : Bool) → r ≡ not (badCells m) → t ≡ not (badCells m) → r ≡ t
+enough-once m r t = unique
+
+pub range-once : (s : Settings) (r t : Bool) → r ≡ not (badSettings s) → t ≡ not (badSettings s) → r ≡ t
+range-once s r t = unique
+
+pub capacity-once : (journal : List ℕ) (r t : ℕ) → r ≡ capacityOf journal → t ≡ capacityOf journal → r ≡ t
+capacity-once journal r t = unique
+
+pub packed-once : (s : Settings) (r t : ℕ) → r ≡ packedOf s → t ≡ packedOf s → r ≡ t
+packed-once s r t = unique
+
+-- what a write leaves, to a register by `machine::put` and to a cell by `keep`
+pub write-once : (used : Bool) (before : List ℕ) (i v : ℕ) (after after' : List ℕ) → after ≡ writeIf used before i v → after' ≡ writeIf used before i v → after ≡ after'
+write-once used before i v after after' = unique
+
+-- one step, and going back by an entry, which is promised whatever the settings, the depth and the journal are
+pub advance-once : (from : State) (r t : Advanced) (regs regs' cells cells' journal journal' : List ℕ)
+    → advancedTo r regs cells journal ≡ stepOf from → advancedTo t regs' cells' journal' ≡ stepOf from
+    → (r ≡ t) × (regs ≡ regs') × (cells ≡ cells') × (journal ≡ journal')
+advance-once from = turns.once (stepOf from)
+
+pub take-back-once : (w : List ℕ) (from : State) (r t : Returned) (regs regs' cells cells' : List ℕ)
+    → ((s : Settings) (depth : ℕ) (journal : List ℕ) → returnedOf r s depth regs cells journal ≡ takenBack w (stateWith (from .regs) s depth (from .cells) journal))
+    → ((s : Settings) (depth : ℕ) (journal : List ℕ) → returnedOf t s depth regs' cells' journal ≡ takenBack w (stateWith (from .regs) s depth (from .cells) journal))
+    → (r ≡ t) × (regs ≡ regs') × (cells ≡ cells')
+take-back-once w from r t regs regs' cells cells' p q =
+    returns.once (from .settings) (from .depth) (from .journal) (takenBack w from) r t regs regs' cells cells' (p _ _ _) (q _ _ _)
+
 -- run, and step, which is a run of budget 1; back, whose journal is the one at entry
 module _ (m : Machine) (cells journal : List ℕ) (n : ℕ) (r t : Ran) (left left' kept kept' : List ℕ) where
   pub run-once : outOf r left kept ≡ runOf n (stateOf m cells journal) → outOf t left' kept' ≡ runOf n (stateOf m cells journal)
       → (r ≡ t) × (left ≡ left') × (kept ≡ kept')
-  run-once p q = machine.once _ r t left left' kept kept' p q
+  run-once p q = runner.once _ r t left left' kept kept' p q
 
   pub back-once : outOf r left journal ≡ backOf n (stateOf m cells journal) → outOf t left' journal ≡ backOf n (stateOf m cells journal)
       → (r ≡ t) × (left ≡ left')
-  back-once p q = let w = machine.once _ r t left left' journal journal p q in (w .0, w .1)
+  back-once p q = let w = runner.once _ r t left left' journal journal p q in (w .0, w .1)
 
 pub refusal-once : (why : Refusal) (r t : ℕ) → r ≡ job.numberOf why → t ≡ job.numberOf why → r ≡ t
 refusal-once why r t = unique

@@ -2,3 +2,4 @@ pub mod Lists
 pub mod Words
 pub mod Damage
 pub mod Entry
+pub mod Named
