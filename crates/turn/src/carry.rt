@@ -12,7 +12,7 @@ ghost use Rattle.machine.specs.State.{capacityOf, stateWith};
 ghost use Rattle.journal.specs.Journal.{settledOf};
 ghost use Rattle.machine.specs.Stops.{plainly};
 ghost use Rattle.turn.specs.Step.{going, stopped, verdictOf, advancedTo};
-ghost use Rattle.turn.specs.Inner.{Stores, doneOf};
+ghost use Rattle.turn.specs.Inner.{Stores, doneOf, pairEntry};
 use crate::Advanced;
 use crate::Verdict;
 use crate::entry::carry_out;
@@ -138,6 +138,24 @@ pub(crate) fn stores(
     left_at(after, s, depth, 0)
 }
 
+// The entry of a step that writes registers a and b.
+fn of_pair(regs: &[u32; 256], s: Settings, a: u8, b: u8) -> [u32; 8]
+    ensures { λ r. ⌜ r ≡ pairEntry (now (regs .entry)) s a b ⌝ }
+{
+    let i = a as usize;
+    let j = b as usize;
+    [
+        regs[255],
+        packed(s),
+        a as u32 + 256 * (b as u32),
+        regs[i],
+        regs[j],
+        0,
+        0,
+        3,
+    ]
+}
+
 // Register a and then register b get values.
 pub(crate) fn splits(
     regs: &mut [u32; 256],
@@ -150,22 +168,9 @@ pub(crate) fn splits(
     ensures { λ r. ⌜ ((cells : List ℕ) → advancedTo r (now (regs .exit)) cells (now (journal .exit))
         ≡ doneOf (pairBy false (w .first) (w .second) (w .pc) (w .a) (w .b) s) (stateWith (now (regs .entry)) s depth cells (now (journal .entry)))) ⌝ }
 {
+    enter(journal, depth, of_pair(regs, s, w.a, w.b));
     let i = w.a as usize;
     let j = w.b as usize;
-    enter(
-        journal,
-        depth,
-        [
-            regs[255],
-            packed(s),
-            w.a as u32 + 256 * (w.b as u32),
-            regs[i],
-            regs[j],
-            0,
-            0,
-            3,
-        ],
-    );
     regs[255] = w.pc;
     regs[i] = w.first;
     regs[j] = w.second;
@@ -185,22 +190,9 @@ pub(crate) fn swaps(
     ensures { λ r. ⌜ ((cells : List ℕ) → advancedTo r (now (regs .exit)) cells (now (journal .exit))
         ≡ doneOf (pairBy true (w .first) (w .second) (w .pc) (w .a) (w .b) s) (stateWith (now (regs .entry)) s depth cells (now (journal .entry)))) ⌝ }
 {
+    enter(journal, depth, of_pair(regs, s, w.a, w.b));
     let i = w.a as usize;
     let j = w.b as usize;
-    enter(
-        journal,
-        depth,
-        [
-            regs[255],
-            packed(s),
-            w.a as u32 + 256 * (w.b as u32),
-            regs[i],
-            regs[j],
-            0,
-            0,
-            3,
-        ],
-    );
     regs[255] = w.pc;
     regs[j] = w.second;
     regs[i] = w.first;

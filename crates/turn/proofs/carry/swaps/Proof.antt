@@ -1,4 +1,5 @@
 -- `turn::carry::swaps` meets its contract: the entry and the writes are the definition's.
+-- Assumes nothing.
 use Rattle.journal.specs.Journal.{regsAfter, settingsAfter, cellsAfter, entryOf}
 use Rattle.turn.specs.Step.{courseOf}
 use Rattle.turn.proofs.Steps.{room, few}
@@ -6,44 +7,17 @@ use borrow.Author.Needs.{needs}
 use Rattle.turn.proofs.carry.swaps.Statement.{statement}
 use Rattle.turn.proofs.carry.swaps.Tie as tie
 
+of-pair-requires : tie.Need-of-pair-requires
+of-pair-requires c κs = search needs
+
+enter-requires : tie.Need-enter-requires
+enter-requires c κs = room _ _ (c .before .before .before .before .pre)
+
 cast-i : tie.Need-cast-i
 cast-i c = search needs
 
 cast-j : tie.Need-cast-j
 cast-j c = search needs
-
-element-copy-out-after : tie.Need-element-copy-out-after
-element-copy-out-after c = search needs
-
-packed-requires : tie.Need-packed-requires
-packed-requires c κs = search needs
-
-cast-t16 : tie.Need-cast-t16
-cast-t16 c = search needs
-
-cast-t17 : tie.Need-cast-t17
-cast-t17 c = search needs
-
-mul-t18 : tie.Need-mul-t18
-mul-t18 c = search needs
-
-add-t19 : tie.Need-add-t19
-add-t19 c = search needs
-
-mul-t20 : tie.Need-mul-t20
-mul-t20 c = search needs
-
-element-copy-out-t23 : tie.Need-element-copy-out-t23
-element-copy-out-t23 c = search needs
-
-mul-t24 : tie.Need-mul-t24
-mul-t24 c = search needs
-
-element-copy-out-t27 : tie.Need-element-copy-out-t27
-element-copy-out-t27 c = search needs
-
-enter-requires : tie.Need-enter-requires
-enter-requires c κs = room _ _ (c .before .before .before .before .before .before .before .before .before .before .pre)
 
 element-write-regs : tie.Need-element-write-regs
 element-write-regs c = search needs
@@ -60,42 +34,33 @@ mul-regs-2 c = search needs
 element-write-regs-3 : tie.Need-element-write-regs-3
 element-write-regs-3 c = search needs
 
-element-copy-out-after-2 : tie.Need-element-copy-out-after-2
-element-copy-out-after-2 c = search needs
+element-copy-out-after : tie.Need-element-copy-out-after
+element-copy-out-after c = search needs
 
 left-at-requires : tie.Need-left-at-requires
-left-at-requires c κs = few _ _ (c .before .before .before .before .before .before .before .before .before .before .before .before .before .before .pre)
+left-at-requires c κs = few _ _ (c .before .before .before .before .before .before .before .before .before .before .pre)
 
 same-length : tie.Need-same-length
 same-length c = search needs
 
 returns : tie.Need-returns
 unfolding regsAfter settingsAfter cellsAfter entryOf courseOf
-returns c = λ cells. rw (c .left-at .ensures .0, c .left-at .ensures .1 .0, c .left-at .ensures .1 .1, c .before .before .before .before .enter .ensures, c .before .before .before .before .before .before .before .before .before .packed .ensures)
+returns c = λ cells. rw (c .left-at .ensures .0, c .left-at .ensures .1 .0, c .left-at .ensures .1 .1, c .before .before .before .before .before .before .enter .ensures, c .before .before .before .before .before .before .before .of-pair .ensures)
 
 pub swaps-spec : {M : Type 1} → statement M
 swaps-spec =
     tie.close
     (tie.spec
+    of-pair-requires
+    enter-requires
     cast-i
     cast-j
-    element-copy-out-after
-    packed-requires
-    cast-t16
-    cast-t17
-    mul-t18
-    add-t19
-    mul-t20
-    element-copy-out-t23
-    mul-t24
-    element-copy-out-t27
-    enter-requires
     element-write-regs
     mul-regs
     element-write-regs-2
     mul-regs-2
     element-write-regs-3
-    element-copy-out-after-2
+    element-copy-out-after
     left-at-requires
     same-length
     returns)
