@@ -8,7 +8,8 @@ use mathlib.Core.Bool.{Bool, not}
 use mathlib.Core.Option.{Option, none, some}
 use mathlib.Core.List.{List}
 use Rattle.word.specs.declared.Operated.{Operated}
-use Rattle.word.specs.Word.{seOf, exOf, askedOf, operatedBy}
+use Rattle.half.specs.Half.{seOf, exOf}
+use Rattle.word.specs.Word.{askedOf, operatedBy}
 use Rattle.cell.specs.declared.Form.{Form}
 use Rattle.cell.specs.declared.Instruction.{Instruction}
 use Rattle.cell.specs.declared.Operands.{Operands}
@@ -39,7 +40,7 @@ use Rattle.turn.proofs.Named as turns
 use Rattle.machine.specs.Stops.{saidOf}
 use Rattle.runner.specs.Calls.{outOf, runOf, backOf}
 use Rattle.runner.proofs.Named as runner
-use Rattle.job.specs.declared.Refusal.{Refusal}
+use Rattle.refusal.specs.declared.Refusal.{Refusal}
 use Rattle.job.specs.declared.Answer.{Answer}
 use Rattle.job.specs.declared.Answer.the-variants.{Done, Refused}
 use Rattle.job.specs.declared.Loaded.{Loaded}
@@ -47,7 +48,7 @@ use Rattle.saver.specs.declared.Saved.{Saved}
 use Rattle.saver.specs.declared.Saved.the-variants as save
 use Rattle.job.specs.Job as job
 use Rattle.saver.specs.Saving as saving
-use Rattle.job.proofs.Named.{heard, heard-number}
+use Rattle.refusal.proofs.Named.{heard, heard-number}
 
 -- two that equal one thing are equal
 pub unique : {A : Type 0} {x y z : A} → x ≡ z → y ≡ z → x ≡ y

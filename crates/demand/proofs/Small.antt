@@ -2,7 +2,8 @@
 -- Assumes nothing.
 use mathlib.Core.Path.{_≡_, refl}
 use mathlib.Core.Bool.{true}
-use Rattle.word.specs.Word.{seOf, exOf, writtenOf, opOf, askedOf}
+use Rattle.half.specs.Half.{seOf, exOf}
+use Rattle.word.specs.Word.{writtenOf, opOf, askedOf}
 use Rattle.cell.specs.Cell.{legal, immediate, formOf, decodeOf}
 use Rattle.text.specs.Text.{digits, decimal}
 use Rattle.mnemonic.specs.Mnemonic.{mnemonics, wordOf}

@@ -7,7 +7,8 @@ use native.Mathlib.Omega.{arith}
 use lib.Dec.{ltb, eqb}
 use Rattle.word.specs.declared.Asked.{Asked}
 use Rattle.word.specs.declared.Asked.the-variants.{Given, Turned, Other}
-use Rattle.word.specs.Word.{seOf, exOf, opOf, askedOf}
+use Rattle.half.specs.Half.{seOf, exOf}
+use Rattle.word.specs.Word.{opOf, askedOf}
 use Rattle.cell.specs.declared.Form.{Form}
 use Rattle.cell.specs.declared.Form.the-variants as form
 use Rattle.cell.specs.declared.Instruction.the-variants.{Registers, Immediate}

@@ -9,8 +9,10 @@ use lib.ListN.{getD}
 use Rattle.word.specs.declared.Op.{Op}
 use Rattle.word.specs.declared.Asked.{Asked}
 use Rattle.word.specs.declared.Asked.the-variants.{Given, Turned, Other}
-use Rattle.word.specs.Word.{seOf, exOf, writtenOf, askedOf}
-use Rattle.word.proofs.Bounds.{value-below, se-below, ex-below}
+use Rattle.half.specs.Half.{seOf, exOf}
+use Rattle.word.specs.Word.{writtenOf, askedOf}
+use Rattle.word.proofs.Bounds.{value-below}
+use Rattle.half.proofs.Bounds.{se-below, ex-below}
 use Rattle.cell.specs.declared.Instruction.{Instruction}
 use Rattle.cell.specs.declared.Instruction.the-variants.{Registers, Immediate, Reserved}
 use Rattle.cell.proofs.Fields as fields

@@ -12,7 +12,8 @@ use borrow.Author.Tests.{leb-true, leb-false, ltb-true, eqb-true}
 use Rattle.word.specs.declared.Op.{Op}
 use Rattle.word.specs.declared.Asked.{Asked}
 use Rattle.word.specs.declared.Asked.the-variants.{Given, Turned, Other}
-use Rattle.word.specs.Word.{seOf, writtenOf, askedOf}
+use Rattle.half.specs.Half.{seOf}
+use Rattle.word.specs.Word.{writtenOf, askedOf}
 use Rattle.word.proofs.Bounds.{raised-below}
 use Rattle.cell.specs.declared.Instruction.{Instruction}
 use Rattle.cell.specs.declared.Instruction.the-variants.{Registers, Immediate, Reserved}

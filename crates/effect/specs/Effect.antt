@@ -8,7 +8,8 @@ use lib.ListN.{getD}
 use Rattle.word.specs.declared.Asked.{Asked}
 use Rattle.word.specs.declared.Asked.the-variants.{Given, Turned, Other}
 use Rattle.word.specs.declared.Written.{Written}
-use Rattle.word.specs.Word.{seOf, exOf, writtenOf, askedOf}
+use Rattle.half.specs.Half.{seOf, exOf}
+use Rattle.word.specs.Word.{writtenOf, askedOf}
 use Rattle.cell.specs.declared.Instruction.{Instruction}
 use Rattle.cell.specs.declared.Instruction.the-variants.{Registers, Immediate, Reserved}
 use Rattle.effect.specs.declared.Settings.{Settings}

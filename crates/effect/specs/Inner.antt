@@ -7,7 +7,8 @@ use lib.Dec.{leb, eqb}
 use lib.ListN.{length}
 use Rattle.word.specs.declared.Asked.{Asked}
 use Rattle.word.specs.declared.Asked.the-variants.{Given, Turned, Other}
-use Rattle.word.specs.Word.{seOf, writtenOf}
+use Rattle.half.specs.Half.{seOf}
+use Rattle.word.specs.Word.{writtenOf}
 use Rattle.cell.specs.declared.Instruction.{Instruction}
 use Rattle.effect.specs.declared.Settings.{Settings}
 use Rattle.effect.specs.declared.Effect.{Effect}

@@ -4,7 +4,8 @@ ghost use Prim.Native.Nat.{_<_};
 ghost use mathlib.Core.Bool.{cond};
 ghost use lib.ListN.{length};
 ghost use Rattle.cell.specs.Cell.{decodeOf};
-ghost use Rattle.word.specs.Word.{seOf, askedOf};
+ghost use Rattle.half.specs.Half.{seOf};
+ghost use Rattle.word.specs.Word.{askedOf};
 ghost use Rattle.effect.specs.Operands.{firstSpecial, nextOf, operandOf};
 ghost use Rattle.effect.specs.Effect.{loadOf, writesOf};
 ghost use Rattle.effect.specs.Refusal.{floats, faults};
@@ -125,7 +126,7 @@ fn second(opcode: u8, imm: u16, regs: &[u32; 256], l: u8, next: u32) -> u32
     ensures { λ r. ⌜ r ≡ cond (takesImm opcode) (seOf imm) (operandOf (now (regs .entry)) l) ⌝ }
 {
     if takes_imm(opcode) {
-        word::se(imm)
+        half::se(imm)
     } else {
         operand(regs, l, next)
     }
@@ -210,7 +211,7 @@ fn branch(rn: u32, imm: u16, pc: u32) -> u32
     ensures { λ r. ⌜ r ≡ branchOf rn imm pc ⌝ }
 {
     if rn == 0 {
-        std::num::wrapping_add_u32(pc, word::se(imm))
+        std::num::wrapping_add_u32(pc, half::se(imm))
     } else {
         pc
     }
@@ -241,18 +242,18 @@ pub fn consider(cell: u32, regs: &[u32; 256], cells: &[u32], s: Settings) -> Con
         3 => writes(n, rn / 65536 * 65536 + imm as u32, pc, s),
         4 => writes(n, imm as u32 * 65536 + rn % 65536, pc, s),
         5 => writes(n, imm as u32, pc, s),
-        6 => writes(n, word::se(imm), pc, s),
-        7 => writes(n, word::ex(imm), pc, s),
+        6 => writes(n, half::se(imm), pc, s),
+        7 => writes(n, half::ex(imm), pc, s),
         54 => Considered::Splits(Pairing {
-            first: word::se((rn % 65536) as u16),
-            second: word::se((rn / 65536) as u16),
+            first: half::se((rn % 65536) as u16),
+            second: half::se((rn / 65536) as u16),
             pc,
             a: m,
             b: l,
         }),
         107 => Considered::Splits(Pairing {
-            first: word::ex((rn % 65536) as u16),
-            second: word::ex((rn / 65536) as u16),
+            first: half::ex((rn % 65536) as u16),
+            second: half::ex((rn / 65536) as u16),
             pc,
             a: m,
             b: l,

@@ -4,4 +4,3 @@ pub mod Walk
 pub mod Words
 pub mod Loading
 pub mod Lawful
-pub mod Named

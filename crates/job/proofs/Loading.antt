@@ -1,17 +1,14 @@
 -- What the checks of a load make of it.
 -- Assumes nothing.
-use Prim.Native.Nat.{ℕ, _≤_}
+use Prim.Native.Nat.{ℕ}
 use mathlib.Core.Path.{sym, ap, _≡_, _∙_}
-use mathlib.Core.Bool.{Bool, true, false, not}
+use mathlib.Core.Bool.{true, false}
 use mathlib.Core.Option.{none}
 use mathlib.Core.List.{List}
-use lib.Dec.{ltb, eqb}
 use lib.ListN.{length}
-use borrow.Author.Tests.{ltb-false}
-use Rattle.effect.proofs.Safe.{or-right}
 use Rattle.machine.specs.declared.Machine.{Machine}
-use Rattle.machine.specs.State.{mostCells, freshMachine, badCells}
-use Rattle.job.specs.declared.Refusal.{Refusal}
+use Rattle.machine.specs.State.{freshMachine, badCells}
+use Rattle.refusal.specs.declared.Refusal.{Refusal}
 use Rattle.job.specs.declared.Answer.{Answer}
 use Rattle.job.specs.declared.Answer.the-variants.{Done, Refused}
 use Rattle.job.specs.Job.{nothingYet, refusalFrom, Content, contentFrom, unnamed, saidOf, loadedWith, refusalIn, loadOf}

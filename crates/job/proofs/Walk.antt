@@ -3,7 +3,7 @@
 use Prim.Native.Nat.{ℕ, zero, suc, pred, _+_, _-_, _≤_, _<_}
 use mathlib.Core.Path.{_≡_, refl, sym, ap, _∙_}
 use mathlib.Core.Bool.{Bool, true, false, cond, not}
-use mathlib.Core.Option.{Option, none, some}
+use mathlib.Core.Option.{Option, none}
 use mathlib.Core.List.{List}
 use native.Mathlib.Omega.{arith}
 use lib.Dec.{ltb}
@@ -13,7 +13,7 @@ use borrow.Author.Tests.{ltb-false, lt-ltb, not-false}
 use Rattle.job.specs.declared.records.Kind.{Kind}
 use Rattle.job.specs.declared.records.Past.{Past}
 use Rattle.job.specs.declared.reading.Look.{Look}
-use Rattle.job.specs.Job.{numberAt, kindBy, knownOf, fitsOf, endsOf, sizeOf, kindOf, payloadOf, pastOf, nothingYet, inOrder, withinOf, settledIn, Course, refused, last, onward, passed, courseOf, Said, refusedAt, endOf, followed, refusalFrom, Content, contentOf, contentFrom}
+use Rattle.job.specs.Job.{numberAt, kindBy, knownOf, fitsOf, endsOf, sizeOf, kindOf, payloadOf, pastOf, nothingYet, inOrder, withinOf, settledIn, Course, refused, last, onward, passed, courseOf, Said, refusedAt, followed, refusalFrom, Content, contentOf, contentFrom}
 use Rattle.job.specs.Inner.{lookedOf, Sound}
 
 -- what the records so far leave to the order, by a name for the crates above

@@ -11,7 +11,8 @@ use Rattle.job.specs.declared.Answer.the-variants.{Done, Refused}
 use Rattle.job.specs.declared.records.Kind.{Kind}
 use Rattle.job.specs.declared.reading.Look.{Look}
 use Rattle.job.specs.declared.reading.Look.the-variants.{Bad, Last, Next}
-use Rattle.job.specs.Job.{fitsOf, withinOf, Course, refused, last, onward, Said, numberOf, Content}
+use Rattle.job.specs.Job.{fitsOf, withinOf, Course, refused, last, onward, Said, Content}
+use Rattle.refusal.specs.Refusal.{numberOf}
 
 -- the course of a record, and the refusal of a job, from the code's answers
 abbrev pub lookedOf : Look → Course

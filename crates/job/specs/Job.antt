@@ -10,14 +10,13 @@ use lib.Seq.{sets}
 use Rattle.effect.specs.declared.Settings.{Settings}
 use Rattle.machine.specs.declared.Machine.{Machine}
 use Rattle.machine.specs.State.{freshSettings, freshMachine, badCells, badSettings}
-use Rattle.job.specs.declared.Refusal.{Refusal}
-use Rattle.job.specs.declared.Refusal.the-variants.{Unsettled, Cells, Short, Unknown, Length, Cut, Space, Order, After, Room}
 use Rattle.job.specs.declared.Answer.{Answer}
 use Rattle.job.specs.declared.Answer.the-variants.{Done, Refused}
 use Rattle.job.specs.declared.Loaded.{Loaded}
 use Rattle.job.specs.declared.records.Kind.{Kind}
 use Rattle.job.specs.declared.records.Kind.the-variants.{Run, Register, Setup, End, Other}
 use Rattle.job.specs.declared.records.Past.{Past}
+use Rattle.refusal.specs.Refusal.{numberOf}
 
 -- All little-endian: the number that some bytes hold, and the bytes of a number, over the width.
 unfoldable pub littleOf : List ℕ → ℕ
@@ -226,18 +225,6 @@ pub record Load : Type 0 where
   pub machine : Machine
   pub cells : List ℕ
   pub said : Said
-
-abbrev pub numberOf : Refusal → ℕ
-numberOf Unsettled = 10
-numberOf Cells = 12
-numberOf Short = 41
-numberOf Unknown = 42
-numberOf Length = 43
-numberOf Cut = 44
-numberOf Space = 45
-numberOf Order = 46
-numberOf After = 47
-numberOf Room = 48
 
 abbrev pub saidOf : Answer → Said
 saidOf Done = record { number = 0; offset = 0 }

@@ -3,13 +3,12 @@ ghost use mathlib.Core.Path.{_≡_};
 ghost use mathlib.Core.Bool.{true};
 ghost use mathlib.Core.Option.{none};
 ghost use Prim.Native.Nat.{_+_, _*_, _≤_};
-ghost use lib.ListN.{length, set, drop, replicate};
+ghost use lib.ListN.{length, set, replicate};
 ghost use lib.Seq.{sets};
 ghost use Rattle.machine.specs.State.{freshSettings};
 ghost use Rattle.job.specs.Job.{fitsOf, registerOf, valueOf, nothingYet, courseOf, payloadCourse, refusalFrom, baseOf, cellsIn, wordsOf, contentOf, contentFrom};
 ghost use Rattle.job.specs.Inner.{lookedOf, refusalOf, contentWith, Sound};
 use crate::Answer;
-use crate::Refusal;
 use crate::little::number;
 use crate::records::Kind;
 use crate::records::Past;
@@ -23,6 +22,7 @@ use crate::records::settings_in;
 use crate::records::settled;
 use crate::records::within;
 use effect::Settings;
+use refusal::Refusal;
 
 // What becomes of a record: refused, the last, or on to the next.
 pub(crate) enum Look {

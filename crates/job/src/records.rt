@@ -1,7 +1,7 @@
 // The rules of a record: which kinds are known, their lengths, their order, and the space that a base has.
 ghost use mathlib.Core.Path.{_≡_};
 ghost use mathlib.Core.Bool.{true};
-ghost use Prim.Native.Nat.{_≤_, _+_, _^_, _<_};
+ghost use Prim.Native.Nat.{_≤_, _+_, _<_};
 ghost use lib.ListN.{length};
 ghost use Rattle.job.specs.Job.{kindBy, knownOf, fitsOf, endsOf, rankOf, pastOf, inOrder, risesOf, baseOf, countOf, withinOf, settledIn, settingsIn};
 use crate::little::number;

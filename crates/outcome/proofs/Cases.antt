@@ -10,9 +10,10 @@ use Rattle.machine.specs.State.{stateOf}
 use Rattle.runner.specs.Calls.{runOf}
 use Rattle.job.specs.declared.Loaded.{Loaded}
 use Rattle.job.specs.declared.Answer.the-variants.{Done, Refused}
-use Rattle.job.specs.declared.Refusal.{Refusal}
-use Rattle.job.specs.Job.{loadOf, loadWith, numberOf}
-use Rattle.job.proofs.Named.{numbered}
+use Rattle.refusal.specs.declared.Refusal.{Refusal}
+use Rattle.job.specs.Job.{loadOf, loadWith}
+use Rattle.refusal.specs.Refusal.{numberOf}
+use Rattle.refusal.proofs.Named.{numbered}
 use Rattle.text.proofs.Adds.{once as added-once}
 use Rattle.outcome.specs.Outcome.{Outcome, refusedWith, ranWith, outcomeOf, Leaves}
 

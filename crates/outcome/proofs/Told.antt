@@ -1,7 +1,8 @@
 -- What document 01 says that `runjob` prints, by computation.
 use mathlib.Core.Path.{_≡_, refl}
 use mathlib.Core.List.{[]}
-use Rattle.word.specs.Word.{seOf, exOf, writtenOf, opOf, askedOf}
+use Rattle.half.specs.Half.{seOf, exOf}
+use Rattle.word.specs.Word.{writtenOf, opOf, askedOf}
 use Rattle.cell.specs.Cell.{legal, immediate, formOf, decodeOf}
 use Rattle.text.specs.Text.{bytes, digits, decimal}
 use Rattle.effect.specs.Operands.{operandOf}

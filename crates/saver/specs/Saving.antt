@@ -11,7 +11,8 @@ use Rattle.machine.specs.declared.Machine.{Machine}
 use Rattle.machine.specs.State.{freshSettings, badCells, badSettings}
 use Rattle.saver.specs.declared.Saved.{Saved}
 use Rattle.saver.specs.declared.Saved.the-variants.{Written, Unsaved}
-use Rattle.job.specs.Job.{bytesOf, numberOf}
+use Rattle.job.specs.Job.{bytesOf}
+use Rattle.refusal.specs.Refusal.{numberOf}
 
 -- A record: payload length (4 bytes), kind (2), payload.
 unfoldable pub recordOf : ℕ → List ℕ → List ℕ

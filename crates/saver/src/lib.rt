@@ -5,10 +5,10 @@ ghost use Rattle.saver.specs.Saving.{saveOf, saveWith};
 mod little;
 mod writing;
 
-use job::Refusal;
 use machine::Machine;
 use machine::enough_cells;
 use machine::in_range;
+use refusal::Refusal;
 use writing::put_job;
 
 // What a save answers: the length written, or a refusal.

@@ -7,14 +7,15 @@ use native.Mathlib.Omega.{arith}
 use lib.ListN.{length, take, replicate}
 use lib.Seq.{sets, length-sets}
 use Rattle.machine.specs.declared.Machine.{Machine}
-use Rattle.job.specs.declared.Refusal.{Refusal}
+use Rattle.refusal.specs.declared.Refusal.{Refusal}
 use Rattle.job.specs.declared.Answer.the-variants.{Refused}
 use Rattle.saver.specs.declared.Saved.{Saved}
 use Rattle.saver.specs.declared.Saved.the-variants.{Written, Unsaved}
-use Rattle.job.specs.Job.{numberOf, saidOf, loadOf}
+use Rattle.refusal.specs.Refusal.{numberOf}
+use Rattle.job.specs.Job.{saidOf, loadOf}
 use Rattle.saver.specs.Saving.{Save, savedOf, saveOf, saveWith}
 use Rattle.saver.proofs.Saving.{done}
-use Rattle.job.proofs.Named.{numbered}
+use Rattle.refusal.proofs.Named.{numbered}
 use Rattle.outcome.specs.Outcome.{refusedText}
 use Rattle.trials.specs.Texts.{lineText}
 use Rattle.trials.specs.Machines.{digestOf}

@@ -1,5 +1,5 @@
 -- What callers need of an operation, in place of its text: its value is a 32-bit number, the flags that it raises are among those
--- that it governs, and those are below 512. Likewise se and ex are 32-bit numbers.
+-- that it governs, and those are below 512.
 -- Assumes nothing.
 use Prim.Native.Nat.{ℕ, zero, suc, _+_, _-_, _*_, _/_, _%_, _^_, _≤_, _<_}
 use mathlib.Core.Path.{_≡_, refl}
@@ -15,7 +15,7 @@ use mir.Val.{ofZ}
 use mir.ValLaws.{toZ-fits}
 use Rattle.word.specs.declared.Op.{Op}
 use Rattle.word.specs.declared.Op.the-variants.{Add, Adc, Sub, Sbb, Mul, Udiv, Sdiv, Mod, And, Or, Xor, Nand, Lnand, Lsh, Ursh, Srsh, Ugt, Sgt, Eq}
-use Rattle.word.specs.Word.{carryOf, borrowOf, signed, truth, when, sdivBy, lshBy, urshBy, srshBy, exponentOf, seOf, exOf, writtenOf}
+use Rattle.word.specs.Word.{carryOf, borrowOf, signed, truth, when, sdivBy, lshBy, urshBy, srshBy, writtenOf}
 
 -- the flags g, all written as 1 or all as 0
 when-within : (t : Bool) (g : ℕ) → bitAnd (when t g) g ≡ when t g
@@ -145,18 +145,3 @@ module _ (m l n : ℕ) (m-fits : m < 2 ^ 32) (l-fits : l < 2 ^ 32) (n-fits : n <
   value-below Ugt flags = truth-below (ltb l m)
   value-below Sgt flags = truth-below (ltZ (signed l) (signed m))
   value-below Eq flags = truth-below (eqb m l)
-
-pub se-below : (x : ℕ) → x < 2 ^ 16 → seOf x < 2 ^ 32
-unfolding seOf
-se-below x h = kept-below (ltb x 0x8000) x (0xFFFF0000 + x) (omega arith) (omega arith)
-
-exponent-below : (e : ℕ) → e < 32 → exponentOf e < 256
-exponent-below e h = go (ltb e 16)
-  where
-    go : (t : Bool) → cond t e (0b11100000 + e) < 256
-    go true = omega arith
-    go false = omega arith
-
-pub ex-below : (x : ℕ) → x < 2 ^ 16 → exOf x < 2 ^ 32
-unfolding exOf
-ex-below x h = omega (arith, exponent-below (x / 2 ^ 10 % 2 ^ 5) (omega arith))

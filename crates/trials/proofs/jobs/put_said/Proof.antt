@@ -1,5 +1,5 @@
 -- `trials::jobs::put_said` meets its contract: a save that is done, and one that is refused with its number.
-use Rattle.job.proofs.Named.{numbered}
+use Rattle.refusal.proofs.Named.{numbered}
 use borrow.Author.Needs.{needs}
 use Rattle.trials.proofs.jobs.put_said.Statement.{statement}
 use Rattle.trials.proofs.jobs.put_said.Tie as tie

@@ -1,14 +1,14 @@
--- `word::se` meets its contract: it is the number that 0x8000 added to wraps back to x with its highest bit turned.
+-- `half::se` meets its contract: it is the number that 0x8000 added to wraps back to x with its highest bit turned.
 use Prim.Native.Nat.{ℕ, _+_, _%_, _^_, _<_}
 use mathlib.Core.Bool.{Bool, true, false}
 use mathlib.Core.Path.{_≡_, refl}
 use native.Mathlib.Omega.{arith}
 use lib.Dec.{ltb}
 use borrow.Author.Tests.{ltb-true, ltb-false}
-use Rattle.word.specs.Word.{seOf}
+use Rattle.half.specs.Half.{seOf}
 use borrow.Author.Needs.{needs}
-use Rattle.word.proofs.se.Statement.{statement}
-use Rattle.word.proofs.se.Tie as tie
+use Rattle.half.proofs.se.Statement.{statement}
+use Rattle.half.proofs.se.Tie as tie
 
 -- the number that 0x8000 added to wraps back to x with its highest bit turned
 extended : (x r : ℕ) → x < 65536 → r < 2 ^ 32 → (r + 32768) % 2 ^ 32 ≡ (x + 32768) % 65536 → r ≡ seOf x

@@ -6,9 +6,9 @@ use mathlib.Core.Bool.{Bool, true, false, cond}
 use mathlib.Core.Option.{Option, none, some}
 use native.Mathlib.Omega.{arith}
 use lib.Dec.{eqb}
-use Rattle.job.specs.declared.Refusal.{Refusal}
-use Rattle.job.specs.declared.Refusal.the-variants.{Unsettled, Cells, Short, Unknown, Length, Cut, Space, Order, After, Room}
-use Rattle.job.specs.Job.{numberOf}
+use Rattle.refusal.specs.declared.Refusal.{Refusal}
+use Rattle.refusal.specs.declared.Refusal.the-variants.{Unsettled, Cells, Short, Unknown, Length, Cut, Space, Order, After, Room}
+use Rattle.refusal.specs.Refusal.{numberOf}
 
 -- the refusal of a job by its number, if it is one
 abbrev pub heard : ℕ → Option Refusal

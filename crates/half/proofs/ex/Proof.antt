@@ -1,10 +1,10 @@
--- `word::ex` meets its contract: the test on the exponent's highest bit picks the case.
+-- `half::ex` meets its contract: the test on the exponent's highest bit picks the case.
 -- Assumes nothing.
 use borrow.Author.Tests.{lt-ltb, le-ltb}
 use borrow.Author.Needs.{needs}
-use Rattle.word.specs.Word.{exOf}
-use Rattle.word.proofs.ex.Statement.{statement}
-use Rattle.word.proofs.ex.Tie as tie
+use Rattle.half.specs.Half.{exOf}
+use Rattle.half.proofs.ex.Statement.{statement}
+use Rattle.half.proofs.ex.Tie as tie
 
 mul-sign : tie.Need-mul-sign
 mul-sign c = search needs

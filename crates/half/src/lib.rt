@@ -1,0 +1,25 @@
+// Sixteen bits made 32: se for integers, ex for floats.
+ghost use mathlib.Core.Path.{_≡_};
+ghost use Rattle.half.specs.Half.{seOf, exOf};
+
+// The 16-bit value sign-extended, in a form that becomes one instruction.
+pub fn se(x: u16) -> u32
+    ensures { λ r. ⌜ r ≡ seOf x ⌝ }
+{
+    std::num::wrapping_sub_u32((x as u32 + 32768) % 65536, 32768)
+}
+
+// A half float's fields in their places: the sign, the exponent sign-extended, the fraction above 13 zeros.
+pub fn ex(x: u16) -> u32
+    ensures { λ r. ⌜ r ≡ exOf x ⌝ }
+{
+    let half = x as u32;
+    let sign = half / 32768 * 2147483648;
+    let fraction = half % 1024 * 8192;
+    let exponent = half / 1024 % 32;
+    if exponent < 16 {
+        sign + exponent * 8388608 + fraction
+    } else {
+        sign + (224 + exponent) * 8388608 + fraction
+    }
+}
