@@ -48,6 +48,7 @@ use Rattle.saver.specs.declared.Saved.{Saved}
 use Rattle.saver.specs.declared.Saved.the-variants as save
 use Rattle.job.specs.Job as job
 use Rattle.saver.specs.Saving as saving
+use Rattle.refusal.specs.Refusal.{numberOf}
 use Rattle.refusal.proofs.Named.{heard, heard-number}
 
 -- two that equal one thing are equal
@@ -135,7 +136,7 @@ module _ (m : Machine) (cells journal : List ℕ) (n : ℕ) (r t : Ran) (left le
       → (r ≡ t) × (left ≡ left')
   back-once p q = let w = runner.once _ r t left left' journal journal p q in (w .0, w .1)
 
-pub refusal-once : (why : Refusal) (r t : ℕ) → r ≡ job.numberOf why → t ≡ job.numberOf why → r ≡ t
+pub refusal-once : (why : Refusal) (r t : ℕ) → r ≡ numberOf why → t ≡ numberOf why → r ≡ t
 refusal-once why r t = unique
 
 -- what a load and a save answered, from what they said
