@@ -37,8 +37,11 @@ abbrev pub mostCells : ℕ
 mostCells = 16384
 
 -- J is the lesser of 65,536 and the journal's length divided by 8, rounded down.
+unfoldable pub entriesIn : ℕ → ℕ
+entriesIn words = min 65536 (words / 8)
+
 unfoldable pub capacityOf : List ℕ → ℕ
-capacityOf journal = min 65536 (length journal / 8)
+capacityOf journal = entriesIn (length journal)
 
 -- 12: M is 0 or above 16,384. 10: flags or mask above 511, mode above 3. 11: depth above J.
 abbrev pub badCells : ℕ → Bool

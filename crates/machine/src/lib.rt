@@ -1,7 +1,7 @@
 // The machine by value, 256 registers, settings and depth; what a call can say; what is asked of M, settings and journal; a write that may be none.
 ghost use mathlib.Core.Path.{_≡_};
 ghost use mathlib.Core.Bool.{not};
-ghost use Rattle.machine.specs.State.{freshMachine, badCells, badSettings, capacityOf, writeIf};
+ghost use Rattle.machine.specs.State.{freshMachine, badCells, badSettings, entriesIn, writeIf};
 ghost use Rattle.machine.specs.Stops.{saidOf};
 use effect::Settings;
 
@@ -102,11 +102,11 @@ pub fn in_range(s: Settings) -> bool
     true
 }
 
-// J: the lesser of 65,536 and the journal's length divided by 8.
-pub fn capacity(journal: &[u32]) -> u32
-    ensures { λ r. ⌜ r ≡ capacityOf (now (journal .entry)) ⌝ }
+// J of a journal of so many words: the lesser of 65,536 and that number divided by 8.
+pub fn capacity(words: usize) -> u32
+    ensures { λ r. ⌜ r ≡ entriesIn words ⌝ }
 {
-    let entries = journal.len() / 8;
+    let entries = words / 8;
     if entries < Machine::MOST_ENTRIES as usize {
         entries as u32
     } else {

@@ -10,7 +10,7 @@ use lib.Dec.{leb, ltb, eqb}
 use lib.ListN.{length}
 use borrow.Author.Tests.{leb-false, ltb-false, eqb-false, lt-ltb, lt-leb, le-ltb, ne-eqb}
 use Rattle.effect.specs.declared.Settings.{Settings}
-use Rattle.machine.specs.State.{State, mostCells, capacityOf, badCells, badSettings}
+use Rattle.machine.specs.State.{State, mostCells, capacityOf, badCells, badSettings, entriesIn}
 use Rattle.effect.specs.Operands.{flagsBound}
 use Rattle.machine.specs.Stops.{Said, plainly}
 use Rattle.runner.specs.Calls.{Out, stopAt, checkOf, called, callOf}
@@ -88,8 +88,9 @@ checked m s j depth h =
     }
 
 -- the answer's case is known, and J with it
-pub as-told : (r v : Checked) (m : ℕ) (s : Settings) (j depth : ℕ) (journal : List ℕ) → j ≡ capacityOf journal → r ≡ v → checkedOf r ≡ saidBy (checkOf m s j depth)
+pub as-told : (r v : Checked) (m : ℕ) (s : Settings) (j depth : ℕ) (journal : List ℕ) → j ≡ entriesIn (length journal) → r ≡ v → checkedOf r ≡ saidBy (checkOf m s j depth)
     → checkedOf v ≡ saidBy (checkOf m s (capacityOf journal) depth)
+unfolding capacityOf
 as-told r v m s j depth journal e p h = rw (← e, ← p) h
 
 -- a call on M cells from 1 to 16,384, settings in range and depth at most J is not refused at once

@@ -147,7 +147,7 @@ fn back_on(m: Machine, cells: &mut [u32], journal: &[u32], number: u64) -> Ran
 pub fn run(m: Machine, cells: &mut [u32], journal: &mut [u32], budget: u64) -> Ran
     ensures { λ r. ⌜ outOf r (now (cells .exit)) (now (journal .exit)) ≡ runOf budget (stateOf m (now (cells .entry)) (now (journal .entry))) ⌝ }
 {
-    let checked = check(cells.len(), m.settings, capacity(journal), m.depth);
+    let checked = check(cells.len(), m.settings, capacity(journal.len()), m.depth);
     match checked {
         Checked::Fine => run_on(m, cells, journal, budget),
         Checked::Bad(stop) => Ran {
@@ -169,7 +169,7 @@ pub fn step(m: Machine, cells: &mut [u32], journal: &mut [u32]) -> Ran
 pub fn back(m: Machine, cells: &mut [u32], journal: &[u32], number: u64) -> Ran
     ensures { λ r. ⌜ outOf r (now (cells .exit)) (now (journal .entry)) ≡ backOf number (stateOf m (now (cells .entry)) (now (journal .entry))) ⌝ }
 {
-    let checked = check(cells.len(), m.settings, capacity(journal), m.depth);
+    let checked = check(cells.len(), m.settings, capacity(journal.len()), m.depth);
     match checked {
         Checked::Fine => back_on(m, cells, journal, number),
         Checked::Bad(stop) => Ran {

@@ -13,7 +13,7 @@ use lib.ListN.{length}
 use lib.Seq.{sets, length-sets}
 use borrow.Author.Tests.{leb-false}
 use Rattle.effect.specs.declared.Settings.{Settings}
-use Rattle.machine.specs.State.{State, capacityOf, writeIf}
+use Rattle.machine.specs.State.{State, capacityOf, writeIf, entriesIn}
 use Rattle.effect.specs.Operands.{firstSpecial, pcOf}
 use Rattle.journal.specs.Journal.{writesIn, settledOf, settingsAfter, cellsAfter, regsAfter, entryOf, endedOf, applyOf}
 use Rattle.turn.specs.Step.{instructionOf, refusalOf, effectIn, moved, stepOf}
@@ -64,7 +64,7 @@ settled-in true s r = record { flags = or-lt 9 (s .flags) 256 (r .flags) (omega 
 settled-in false s r = r
 
 capacity-sets : (journal words : List ℕ) (i : ℕ) → capacityOf (sets journal i words) ≡ capacityOf journal
-unfolding capacityOf
+unfolding capacityOf entriesIn
 capacity-sets journal words i = rw (length-sets journal i words)
 
 -- settings stay in range, and depth at most J

@@ -15,7 +15,7 @@ use Rattle.effect.specs.declared.Effect.{Effect}
 use Rattle.effect.specs.declared.Settings.{Settings}
 use Rattle.effect.specs.declared.execute.Considered.{Considered}
 use Rattle.effect.specs.declared.execute.Considered.the-variants.{Float, Fault, Does}
-use Rattle.machine.specs.State.{State, capacityOf}
+use Rattle.machine.specs.State.{State, capacityOf, entriesIn}
 use Rattle.effect.specs.Operands.{firstSpecial, pcOf, operandOf}
 use Rattle.journal.specs.Journal.{applyOf}
 use Rattle.effect.specs.Refusal.{floats, faults, refusedBy}
@@ -61,15 +61,15 @@ module _ (s : State) where
 
 -- below J there is room for an entry, and J entries are within the journal
 pub room : (journal : List ℕ) (depth : ℕ) → depth < capacityOf journal → 8 * (depth + 1) ≤ length journal
-unfolding capacityOf
+unfolding capacityOf entriesIn
 room journal depth h = omega arith
 
 pub few : (journal : List ℕ) (depth : ℕ) → depth < capacityOf journal → depth < 65536
-unfolding capacityOf
+unfolding capacityOf entriesIn
 few journal depth h = omega arith
 
 pub entries : (journal : List ℕ) (depth : ℕ) → depth ≤ capacityOf journal → 8 * depth ≤ length journal
-unfolding capacityOf
+unfolding capacityOf entriesIn
 entries journal depth h = omega arith
 
 -- what was considered, by the case that it is

@@ -90,7 +90,7 @@ pub fn advance(
     if cells.len() <= at {
         return refused(s, depth, Stop::Fetch);
     }
-    if capacity(journal) <= depth {
+    if capacity(journal.len()) <= depth {
         return refused(s, depth, Stop::Full);
     }
     let considered = consider(cells[at], regs, cells, s);

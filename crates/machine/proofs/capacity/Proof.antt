@@ -2,7 +2,7 @@
 -- Assumes nothing.
 use native.Mathlib.Omega.{arith}
 use borrow.Author.Needs.{needs}
-use Rattle.machine.specs.State.{capacityOf}
+use Rattle.machine.specs.State.{entriesIn}
 use Rattle.machine.proofs.capacity.Statement.{statement}
 use Rattle.machine.proofs.capacity.Tie as tie
 
@@ -13,11 +13,11 @@ cast-result : tie.Need-cast-result
 cast-result c = search needs
 
 returns : tie.Need-returns
-unfolding capacityOf
+unfolding entriesIn
 returns c = omega arith
 
 returns-2 : tie.Need-returns-2
-unfolding capacityOf
+unfolding entriesIn
 returns-2 c = omega arith
 
 pub capacity-spec : {M : Type 1} → statement M

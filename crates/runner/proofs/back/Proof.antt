@@ -1,11 +1,11 @@
 -- `runner::back` meets its contract: the check's answer picks the case.
 -- Assumes nothing.
 use mathlib.Core.Path.{_∙_}
-use borrow.Author.Needs.{needs}
 use Rattle.machine.specs.State.{stateOf}
 use Rattle.runner.specs.declared.Checked.the-variants.{Fine, Bad}
 use Rattle.runner.specs.Calls.{backFrom}
 use Rattle.runner.proofs.Checks.{called-fine, called-bad, checked, as-told}
+use borrow.Author.Needs.{needs}
 use Rattle.runner.proofs.back.Statement.{statement}
 use Rattle.runner.proofs.back.Tie as tie
 
@@ -28,10 +28,12 @@ same-length : tie.Need-same-length
 same-length c = search needs
 
 returns : tie.Need-returns
-returns c = c .before .before .back-on .ensures ∙ called-fine backFrom (c .before .before .before .before .before .before .before .before .before .before .args .number) (stateOf (c .before .before .before .before .before .before .before .before .before .before .args .m) (c .before .before .before .before .before .before .before .before .before .before .args .cells .now) (c .before .before .before .before .before .before .before .before .before .before .args .journal .now)) (as-told (c .before .before .before .before .before .before .check .result) Fine _ _ _ _ _ (c .before .before .before .before .before .before .before .capacity .ensures) (search needs) (c .before .before .before .before .before .before .check .ensures))
+returns c = let a = c .before .before .before .before .before .before .before .before .before .before .args in
+    c .before .before .back-on .ensures ∙ called-fine backFrom (a .number) (stateOf (a .m) (a .cells .now) (a .journal .now)) (as-told (c .before .before .before .before .before .before .check .result) Fine _ _ _ _ _ (c .before .before .before .before .before .before .before .capacity .ensures) (search needs) (c .before .before .before .before .before .before .check .ensures))
 
 returns-2 : tie.Need-returns-2
-returns-2 c = called-bad backFrom (c .before .before .before .before .before .before .before .args .number) (stateOf (c .before .before .before .before .before .before .before .args .m) (c .before .before .before .before .before .before .before .args .cells .now) (c .before .before .before .before .before .before .before .args .journal .now)) _ (as-told (c .before .before .before .check .result) (Bad (c .before .checked .given .0 .0)) _ _ _ _ _ (c .before .before .before .before .capacity .ensures) (search needs) (c .before .before .before .check .ensures))
+returns-2 c = let a = c .before .before .before .before .before .before .before .args in
+    called-bad backFrom (a .number) (stateOf (a .m) (a .cells .now) (a .journal .now)) _ (as-told (c .before .before .before .check .result) (Bad (c .before .checked .given .0 .0)) _ _ _ _ _ (c .before .before .before .before .capacity .ensures) (search needs) (c .before .before .before .check .ensures))
 
 pub back-spec : {M : Type 1} → statement M
 back-spec =

@@ -1,11 +1,11 @@
 -- `runner::run` meets its contract: the check's answer picks the case.
 -- Assumes nothing.
 use mathlib.Core.Path.{_∙_}
-use borrow.Author.Needs.{needs}
 use Rattle.machine.specs.State.{stateOf}
 use Rattle.runner.specs.declared.Checked.the-variants.{Fine, Bad}
 use Rattle.runner.specs.Calls.{runFrom}
-use Rattle.runner.proofs.Checks.{called-fine, called-bad, checked, as-told}
+use Rattle.runner.proofs.Checks.{called-fine, called-bad, as-told}
+use borrow.Author.Needs.{needs}
 use Rattle.runner.proofs.run.Statement.{statement}
 use Rattle.runner.proofs.run.Tie as tie
 
@@ -31,13 +31,12 @@ same-length-2 : tie.Need-same-length-2
 same-length-2 c = search needs
 
 returns : tie.Need-returns
-returns c = c .before .before .before .before .run-on .ensures ∙ called-fine runFrom (c .before .before .before .before .before .before .before .before .before .before .before .before .before .before .args .budget) (stateOf (c .before .before .before .before .before .before .before .before .before .before .before .before .before .before .args .m) (c .before .before .before .before .before .before .before .before .before .before .before .before .before .before .args .cells .now) (c .before .before .before .before .before .before .before .before .before .before .before .before .before .before .args .journal .now)) (as-told (c .before .before .before .before .before .before .before .before .before .check .result) Fine _ _ _ _ _ (c .before .before .before .before .before .before .before .before .before .before .capacity .ensures) (search needs) (c .before .before .before .before .before .before .before .before .before .check .ensures))
-
-same-length-3 : tie.Need-same-length-3
-same-length-3 c = search needs
+returns c = let a = c .before .before .before .before .before .before .before .before .before .before .before .before .before .args in
+    c .before .before .before .before .run-on .ensures ∙ called-fine runFrom (a .budget) (stateOf (a .m) (a .cells .now) (a .journal .now)) (as-told (c .before .before .before .before .before .before .before .before .before .check .result) Fine _ _ _ _ _ (c .before .before .before .before .before .before .before .before .before .before .capacity .ensures) (search needs) (c .before .before .before .before .before .before .before .before .before .check .ensures))
 
 returns-2 : tie.Need-returns-2
-returns-2 c = called-bad runFrom (c .before .before .before .before .before .before .before .before .args .budget) (stateOf (c .before .before .before .before .before .before .before .before .args .m) (c .before .before .before .before .before .before .before .before .args .cells .now) (c .before .before .before .before .before .before .before .before .args .journal .now)) _ (as-told (c .before .before .before .check .result) (Bad (c .before .checked .given .0 .0)) _ _ _ _ _ (c .before .before .before .before .capacity .ensures) (search needs) (c .before .before .before .check .ensures))
+returns-2 c = let a = c .before .before .before .before .before .before .before .args in
+    called-bad runFrom (a .budget) (stateOf (a .m) (a .cells .now) (a .journal .now)) _ (as-told (c .before .before .before .check .result) (Bad (c .before .checked .given .0 .0)) _ _ _ _ _ (c .before .before .before .before .capacity .ensures) (search needs) (c .before .before .before .check .ensures))
 
 pub run-spec : {M : Type 1} → statement M
 run-spec =
@@ -51,5 +50,4 @@ run-spec =
     same-length
     same-length-2
     returns
-    same-length-3
     returns-2)

@@ -7,6 +7,7 @@ use Prim.Native.Nat.{_<_}
 use lib.ListN.{length}
 use Rattle.machine.specs.State.{State, capacityOf, stateWith}
 use Rattle.effect.specs.declared.execute.Considered.the-variants.{Float, Fault, Still, Writes, Stores, Splits, Swaps, Does}
+use Rattle.machine.proofs.Checks.{has-room, no-room}
 use Rattle.effect.specs.Refusal.{refusedBy}
 use Rattle.turn.specs.Step.{instructionOf, refusalOf}
 use borrow.Author.Needs.{needs}
@@ -18,14 +19,14 @@ abbrev state : tie.Start → State
 state c = stateWith (c .args .regs .now) (c .args .s) (c .args .depth) (c .args .cells .now) (c .args .journal .now)
 
 abbrev start : tie.After-consider → tie.Start
-start c = c .before .before .before .before .before .before .before .before .before .before .before .before
+start c = c .before .before .before .before .before .before .before .before .before .before .before
 
 -- past the tests the cell is looked at
 below : (c : tie.After-consider) → start c .args .depth < capacityOf (start c .args .journal .now)
-below c = rw (c .before .before .before .before .before .capacity .ensures) at (c .before .before .before .before .if3 .left)
+below c = has-room _ _ _ (c .before .before .before .before .before .capacity .ensures) (c .before .before .before .before .if3 .left)
 
 looked : (c : tie.After-consider) → refusalOf (state (start c)) ≡ refusedBy (instructionOf (state (start c))) (start c .args .regs .now) (length (start c .args .cells .now))
-looked c = looked-at (state (start c)) (c .before .before .before .before .before .before .before .before .if1 .left) (c .before .before .before .before .before .before .before .if2 .left) (below c)
+looked c = looked-at (state (start c)) (c .before .before .before .before .before .before .before .if1 .left) (c .before .before .before .before .before .before .if2 .left) (below c)
 
 considering : (c : tie.After-consider) → atLength (start c .args .s) (c .consider .result) ≡ consideredOf (instructionOf (state (start c))) (start c .args .regs .now) (start c .args .s) (start c .args .cells .now)
 considering c = c .consider .ensures
@@ -54,11 +55,8 @@ capacity-requires c κs = search needs
 refused-requires-3 : tie.Need-refused-requires-3
 refused-requires-3 c κs = search needs
 
-same-length : tie.Need-same-length
-same-length c = search needs
-
 returns-3 : tie.Need-returns-3
-returns-3 c = rw (c .refused3 .ensures) (refused-with (state (c .before .before .before .before .before .before .before .before .before)) 7 (full (state (c .before .before .before .before .before .before .before .before .before)) (c .before .before .before .before .before .if1 .left) (c .before .before .before .before .if2 .left) (rw (c .before .before .capacity .ensures) at (c .before .if3 .taken))))
+returns-3 c = rw (c .refused3 .ensures) (refused-with (state (c .before .before .before .before .before .before .before .before)) 7 (full (state (c .before .before .before .before .before .before .before .before)) (c .before .before .before .before .if1 .left) (c .before .before .before .if2 .left) (no-room _ _ _ (c .before .before .capacity .ensures) (c .before .if3 .taken))))
 
 mul-consider : tie.Need-mul-consider
 mul-consider c = search needs
@@ -85,13 +83,13 @@ enum-known-considered : tie.Need-enum-known-considered
 enum-known-considered c = search needs
 
 moves-requires : tie.Need-moves-requires
-moves-requires c κs = search needs
+moves-requires c κs = below (c .before .before .before .before .before)
 
 enum-known-considered-2 : tie.Need-enum-known-considered-2
 enum-known-considered-2 c = search needs
 
 writes-requires : tie.Need-writes-requires
-writes-requires c κs = search needs
+writes-requires c κs = below (c .before .before .before .before .before)
 
 enum-known-considered-3 : tie.Need-enum-known-considered-3
 enum-known-considered-3 c = search needs
@@ -107,13 +105,13 @@ enum-known-considered-4 : tie.Need-enum-known-considered-4
 enum-known-considered-4 c = search needs
 
 splits-requires : tie.Need-splits-requires
-splits-requires c κs = search needs
+splits-requires c κs = below (c .before .before .before .before .before)
 
 enum-known-considered-5 : tie.Need-enum-known-considered-5
 enum-known-considered-5 c = search needs
 
 swaps-requires : tie.Need-swaps-requires
-swaps-requires c κs = search needs
+swaps-requires c κs = below (c .before .before .before .before .before)
 
 enum-known-considered-6 : tie.Need-enum-known-considered-6
 enum-known-considered-6 c = search needs
@@ -125,31 +123,25 @@ does-requires c κs = let k = c .before .before .before .before .before .before 
     let safe = safe-does (state (start k)) (looked k) (x .0) (read-as _ _ (Does (x .0)) _ told (considering k)) in
     (below k, λ u. safe .store u .1)
 
-same-length-2 : tie.Need-same-length-2
-same-length-2 c = search needs
-
-same-length-3 : tie.Need-same-length-3
-same-length-3 c = search needs
+same-length : tie.Need-same-length
+same-length c = search needs
 
 returns-4 : tie.Need-returns-4
 returns-4 c = let k = c .before .before .before in
     rw (c .refused4 .ensures) (refused-with (state (start k)) 6 (float (state (start k)) (looked k) (read-as _ _ Float _ (c .before .enum-told .given .1) (considering k))))
 
-same-length-4 : tie.Need-same-length-4
-same-length-4 c = search needs
-
-same-length-5 : tie.Need-same-length-5
-same-length-5 c = search needs
+same-length-2 : tie.Need-same-length-2
+same-length-2 c = search needs
 
 returns-5 : tie.Need-returns-5
 returns-5 c = let k = c .before .before .before in
     rw (c .refused5 .ensures) (refused-with (state (start k)) 5 (fault (state (start k)) (looked k) (read-as _ _ Fault _ (c .before .enum-told2 .given .1) (considering k))))
 
-same-length-6 : tie.Need-same-length-6
-same-length-6 c = search needs
+same-length-3 : tie.Need-same-length-3
+same-length-3 c = search needs
 
-same-length-7 : tie.Need-same-length-7
-same-length-7 c = search needs
+same-length-4 : tie.Need-same-length-4
+same-length-4 c = search needs
 
 returns-6 : tie.Need-returns-6
 returns-6 c = let k = c .before .before .before .before .before .before .before .before in
@@ -157,11 +149,11 @@ returns-6 c = let k = c .before .before .before .before .before .before .before 
     let told : k .consider .result ≡ Still w = search needs in
     c .before .before .moves .ensures (start k .args .cells .now) ∙ does-step (state (start k)) (looked k) (movesBy (w .pc) (w .raised) (w .flags) (start k .args .s)) (read-as _ _ (Still w) _ told (considering k))
 
-same-length-8 : tie.Need-same-length-8
-same-length-8 c = search needs
+same-length-5 : tie.Need-same-length-5
+same-length-5 c = search needs
 
-same-length-9 : tie.Need-same-length-9
-same-length-9 c = search needs
+same-length-6 : tie.Need-same-length-6
+same-length-6 c = search needs
 
 returns-7 : tie.Need-returns-7
 returns-7 c = let k = c .before .before .before .before .before .before .before .before in
@@ -169,11 +161,11 @@ returns-7 c = let k = c .before .before .before .before .before .before .before 
     let told : k .consider .result ≡ Writes w = search needs in
     c .before .before .writes .ensures (start k .args .cells .now) ∙ does-step (state (start k)) (looked k) (writesBy (w .value) (w .raised) (w .flags) (w .n) (w .pc) (start k .args .s)) (read-as _ _ (Writes w) _ told (considering k))
 
-same-length-10 : tie.Need-same-length-10
-same-length-10 c = search needs
+same-length-7 : tie.Need-same-length-7
+same-length-7 c = search needs
 
-same-length-11 : tie.Need-same-length-11
-same-length-11 c = search needs
+same-length-8 : tie.Need-same-length-8
+same-length-8 c = search needs
 
 returns-8 : tie.Need-returns-8
 returns-8 c = let k = c .before .before .before .before .before .before .before .before .before .before .before in
@@ -181,11 +173,11 @@ returns-8 c = let k = c .before .before .before .before .before .before .before 
     let told : k .consider .result ≡ Stores w = search needs in
     c .before .before .before .before .stores .ensures ∙ does-step (state (start k)) (looked k) (storesBy (w .value) (w .address) (w .pc) (start k .args .s)) (read-as _ _ (Stores w) _ told (considering k))
 
-same-length-12 : tie.Need-same-length-12
-same-length-12 c = search needs
+same-length-9 : tie.Need-same-length-9
+same-length-9 c = search needs
 
-same-length-13 : tie.Need-same-length-13
-same-length-13 c = search needs
+same-length-10 : tie.Need-same-length-10
+same-length-10 c = search needs
 
 returns-9 : tie.Need-returns-9
 returns-9 c = let k = c .before .before .before .before .before .before .before .before in
@@ -193,11 +185,11 @@ returns-9 c = let k = c .before .before .before .before .before .before .before 
     let told : k .consider .result ≡ Splits w = search needs in
     c .before .before .splits .ensures (start k .args .cells .now) ∙ does-step (state (start k)) (looked k) (pairBy false (w .first) (w .second) (w .pc) (w .a) (w .b) (start k .args .s)) (read-as _ _ (Splits w) _ told (considering k))
 
-same-length-14 : tie.Need-same-length-14
-same-length-14 c = search needs
+same-length-11 : tie.Need-same-length-11
+same-length-11 c = search needs
 
-same-length-15 : tie.Need-same-length-15
-same-length-15 c = search needs
+same-length-12 : tie.Need-same-length-12
+same-length-12 c = search needs
 
 returns-10 : tie.Need-returns-10
 returns-10 c = let k = c .before .before .before .before .before .before .before .before in
@@ -205,11 +197,11 @@ returns-10 c = let k = c .before .before .before .before .before .before .before
     let told : k .consider .result ≡ Swaps w = search needs in
     c .before .before .swaps .ensures (start k .args .cells .now) ∙ does-step (state (start k)) (looked k) (pairBy true (w .first) (w .second) (w .pc) (w .a) (w .b) (start k .args .s)) (read-as _ _ (Swaps w) _ told (considering k))
 
-same-length-16 : tie.Need-same-length-16
-same-length-16 c = search needs
+same-length-13 : tie.Need-same-length-13
+same-length-13 c = search needs
 
-same-length-17 : tie.Need-same-length-17
-same-length-17 c = search needs
+same-length-14 : tie.Need-same-length-14
+same-length-14 c = search needs
 
 returns-11 : tie.Need-returns-11
 returns-11 c = let k = c .before .before .before .before .before .before .before .before .before .before .before in
@@ -229,7 +221,6 @@ advance-spec =
     returns-2
     capacity-requires
     refused-requires-3
-    same-length
     returns-3
     mul-consider
     slice-read-consider
@@ -250,27 +241,25 @@ advance-spec =
     swaps-requires
     enum-known-considered-6
     does-requires
-    same-length-2
-    same-length-3
+    same-length
     returns-4
-    same-length-4
-    same-length-5
+    same-length-2
     returns-5
-    same-length-6
-    same-length-7
+    same-length-3
+    same-length-4
     returns-6
-    same-length-8
-    same-length-9
+    same-length-5
+    same-length-6
     returns-7
-    same-length-10
-    same-length-11
+    same-length-7
+    same-length-8
     returns-8
-    same-length-12
-    same-length-13
+    same-length-9
+    same-length-10
     returns-9
-    same-length-14
-    same-length-15
+    same-length-11
+    same-length-12
     returns-10
-    same-length-16
-    same-length-17
+    same-length-13
+    same-length-14
     returns-11)
