@@ -30,7 +30,7 @@ use Rattle.effect.specs.Inner.{atLength, consideredOf}
 use Rattle.machine.specs.declared.Machine.{Machine}
 use Rattle.runner.specs.declared.Ran.{Ran}
 use Rattle.machine.specs.declared.Stop.{Stop}
-use Rattle.machine.specs.State.{State, freshMachine, stateOf, stateWith, badCells, badSettings, capacityOf, writeIf}
+use Rattle.machine.specs.State.{State, freshMachine, stateOf, stateWith, badCells, badSettings, entriesIn, writeIf}
 use Rattle.journal.specs.declared.Returned.{Returned}
 use Rattle.journal.specs.Journal.{packedOf, takenBack, returnedOf}
 use Rattle.journal.proofs.Named as returns
@@ -103,8 +103,8 @@ enough-once m r t = unique
 pub range-once : (s : Settings) (r t : Bool) → r ≡ not (badSettings s) → t ≡ not (badSettings s) → r ≡ t
 range-once s r t = unique
 
-pub capacity-once : (journal : List ℕ) (r t : ℕ) → r ≡ capacityOf journal → t ≡ capacityOf journal → r ≡ t
-capacity-once journal r t = unique
+pub capacity-once : (words r t : ℕ) → r ≡ entriesIn words → t ≡ entriesIn words → r ≡ t
+capacity-once words r t = unique
 
 pub packed-once : (s : Settings) (r t : ℕ) → r ≡ packedOf s → t ≡ packedOf s → r ≡ t
 packed-once s r t = unique
