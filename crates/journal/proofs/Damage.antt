@@ -1,4 +1,4 @@
--- What an entry that is not damaged shows: its registers are two.
+-- What an entry that is not damaged shows: word 2 names two registers.
 -- Assumes nothing.
 use Prim.Native.Nat.{ℕ, _<_}
 use mathlib.Core.Path.{_≡_}

@@ -118,7 +118,7 @@ in-memory true i m h = rw (le-leb 1 i (h refl .0), lt-ltb i m (h refl .1))
 in-memory false i m h = refl
 
 -- settings in range lose nothing in word 1
-packed-in : (s : Settings) → InRange s → packedOf s ≡ s .flags + 512 * s .mask + 262144 * s .mode
+pub packed-in : (s : Settings) → InRange s → packedOf s ≡ s .flags + 512 * s .mask + 262144 * s .mode
 unfolding packedOf
 packed-in s l = omega arith
 

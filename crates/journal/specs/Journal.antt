@@ -43,7 +43,7 @@ settledOf false s = s
 unfoldable pub settingsAfter : Effect → List ℕ → Settings
 settingsAfter e regs = settledOf (endedOf (regsAfter e regs)) (e .settings)
 
--- Word 1: flags + 512 mask + 2^18 mode, in 32 bits.
+-- Word 1: flags + 512 mask + 2^18 mode, in 32 bits: of settings that a call takes nothing is lost.
 unfoldable pub packedOf : Settings → ℕ
 packedOf s = (s .flags + flagsBound * s .mask + flagsBound * flagsBound * s .mode) % 4294967296
 

@@ -43,7 +43,7 @@ entriesIn words = min 65536 (words / 8)
 unfoldable pub capacityOf : List ℕ → ℕ
 capacityOf journal = entriesIn (length journal)
 
--- 12: M is 0 or above 16,384. 10: flags or mask above 511, mode above 3. 11: depth above J.
+-- 12: M is 0 or above 16,384. 10: flags or mask above 511, mode above 3.
 abbrev pub badCells : ℕ → Bool
 badCells m = eqb m 0 || ltb mostCells m
 

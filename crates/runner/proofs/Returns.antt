@@ -14,6 +14,7 @@ use Rattle.journal.specs.declared.Returned.{Returned}
 use Rattle.machine.specs.State.{State, capacityOf}
 use Rattle.journal.specs.Journal.{lastOf, damagedOf, undoOf, Gone, takenBack, returnedOf}
 use Rattle.machine.specs.Stops.{plainly}
+use Rattle.runner.proofs.Turns.{left}
 use Rattle.runner.specs.Calls.{Out, stopAt, backFrom}
 
 -- after a step back: the rest, or the end
@@ -48,9 +49,6 @@ none-left n k s z = rw (eq-eqb (s .depth) 0 z)
 pub as-told : (r v : Returned) (w last : List ℕ) (s : Settings) (depth : ℕ) (regs cells journal : List ℕ) (at : State)
     → r ≡ v → w ≡ last → returnedOf r s depth regs cells journal ≡ takenBack w at → returnedOf v s depth regs cells journal ≡ takenBack last at
 as-told r v w last s depth regs cells journal at e l h = rw (← e, ← l) h
-
-left : (b d : ℕ) → d < b → b - d ≡ suc (b - (d + 1))
-left b d h = omega arith
 
 -- Going back that is under way: what is left of it leads where the whole leads.
 pub record Returning (number : ℕ) (from at : State) (done : ℕ) : Type 0 where

@@ -10,7 +10,8 @@ use Rattle.machine.specs.Stops.{Said, plainly}
 use Rattle.turn.specs.Step.{Course, going, stopped, refused, Moved, stepOf}
 use Rattle.runner.specs.Calls.{stopAt, onward, runFrom}
 
-left : (b d : ℕ) → d < b → b - d ≡ suc (b - (d + 1))
+-- one of what is left
+pub left : (b d : ℕ) → d < b → b - d ≡ suc (b - (d + 1))
 left b d h = omega arith
 
 turn : (n k : ℕ) (s : State) (w : Moved) (v : Course) → w ≡ stepOf s → w .course ≡ v → runFrom (suc n) k s ≡ onward (runFrom n) v k (w .state)

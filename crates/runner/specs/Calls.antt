@@ -44,7 +44,7 @@ backFrom (suc n) k s =
     (cond (damagedOf (length (s .cells)) (lastOf (s .journal) (s .depth))) (stopAt (plainly 9) k s)
     (backFrom n (k + 1) (undoOf s)))
 
--- Once a call: 12, 10, 11. None of them, or the first, for M cells, the settings, J and the depth.
+-- Once a call: 12, 10, 11. None of them, or the first, for M cells, the settings, J and the depth. 11: depth above J.
 unfoldable pub checkOf : ℕ → Settings → ℕ → ℕ → Option ℕ
 checkOf m s j depth =
     cond (badCells m) (some 12)
