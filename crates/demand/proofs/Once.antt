@@ -6,7 +6,7 @@ use Prim.Native.Nat.{ℕ}
 use mathlib.Core.Path.{_≡_, refl, sym, ap, _∙_}
 use mathlib.Core.Bool.{Bool, not}
 use mathlib.Core.Option.{Option, none, some}
-use mathlib.Core.List.{List}
+use mathlib.Core.List.{List, []}
 use Rattle.word.specs.declared.Operated.{Operated}
 use Rattle.half.specs.Half.{seOf, exOf}
 use Rattle.word.specs.Word.{askedOf, operatedBy}
@@ -24,9 +24,10 @@ use Rattle.line.proofs.Lines as lines
 use Rattle.reader.specs.declared.ReadLine.{ReadLine}
 use Rattle.reader.specs.Reader as reader
 use Rattle.reader.proofs.RoundTrip as trips
-use Rattle.effect.specs.declared.Settings.{Settings}
+use Rattle.machine.specs.declared.Settings.{Settings}
 use Rattle.effect.specs.declared.execute.Considered.{Considered}
-use Rattle.effect.specs.Inner.{atLength, consideredOf}
+use Rattle.effect.specs.Action.{actionOf}
+use Rattle.effect.specs.Inner.{meant, toldOf}
 use Rattle.machine.specs.declared.Machine.{Machine}
 use Rattle.runner.specs.declared.Ran.{Ran}
 use Rattle.machine.specs.declared.Stop.{Stop}
@@ -87,8 +88,9 @@ read-once = trips.read-once
 
 -- the stop or the effect, whether it is said in short or at length
 pub consider-once : (c : ℕ) (regs cells : List ℕ) (s : Settings) (r t : Considered)
-    → atLength s r ≡ consideredOf (cell.decodeOf c) regs s cells → atLength s t ≡ consideredOf (cell.decodeOf c) regs s cells → atLength s r ≡ atLength s t
-consider-once c regs cells s r t = unique
+    → ((depth : ℕ) (journal : List ℕ) → meant s r ≡ toldOf (actionOf (cell.decodeOf c)) (stateWith regs s depth cells journal))
+    → ((depth : ℕ) (journal : List ℕ) → meant s t ≡ toldOf (actionOf (cell.decodeOf c)) (stateWith regs s depth cells journal)) → meant s r ≡ meant s t
+consider-once c regs cells s r t p q = unique (p 0 []) (q 0 [])
 
 pub fresh-once : (r t : Machine) → r ≡ freshMachine → t ≡ freshMachine → r ≡ t
 fresh-once r t = unique

@@ -12,10 +12,9 @@ use lib.Dec.{eqb}
 use lib.ListN.{length, getD, set, drop, length-append}
 use lib.Seq.{sets, drop-at, drop-drop, take-append-seam, drop-append-seam, set-getD, getD-set-other}
 use borrow.Author.Tests.{eqb-true, eqb-false, le-leb, lt-leb, lt-ltb, le-ltb, eq-eqb}
-use Rattle.effect.specs.declared.Settings.{Settings}
-use Rattle.effect.specs.Inner.{InRange}
-use Rattle.effect.proofs.Safe.{picked}
-use Rattle.machine.specs.State.{mostCells, freshSettings, badSettings}
+use Rattle.machine.specs.declared.Settings.{Settings}
+use Rattle.machine.specs.State.{InRange, mostCells, freshSettings, badSettings}
+use Rattle.machine.proofs.Tests.{picked}
 use Rattle.job.specs.Job.{littleOf, bytesOf, numberAt, kindBy, knownOf, fitsOf, endsOf, baseOf, countOf, wordsOf, cellsIn, registerOf, valueOf, settingsIn, sizeOf, kindOf, payloadOf, pastOf, inOrder, withinOf, settledIn, passed, courseOf, refusalFrom, Content, contentOf, contentFrom}
 use Rattle.saver.specs.Saving.{recordOf, wordBytes, runOf, runsFrom, valueRecord, valuesFrom, freshOf, setupOf}
 use Rattle.job.proofs.Numbers.{bound, take-bytes, drop-bytes, little-bytes}

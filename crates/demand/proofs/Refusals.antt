@@ -17,7 +17,7 @@ use Rattle.line.specs.Line as line
 use Rattle.reader.specs.declared.ReadLine.{ReadLine}
 use Rattle.reader.specs.declared.ReadLine.the-variants.{Cell, NoLine}
 use Rattle.reader.specs.Reader as reader
-use Rattle.effect.proofs.Safe.{picked}
+use Rattle.machine.proofs.Tests.{picked}
 use Rattle.machine.specs.declared.Machine.{Machine}
 use Rattle.machine.specs.State.{badCells, badSettings}
 use Rattle.job.specs.Job.{Course, refused, last, onward, Said, refusalFrom, refusalIn, loadedBy, loadOf, courseOf, payloadCourse, kindOf, sizeOf, payloadOf, knownOf, fitsOf, inOrder, withinOf, settledIn, endsOf, pastOf, passed, followed, endOf, nothingYet}

@@ -9,9 +9,8 @@ use native.Mathlib.Omega.{arith}
 use lib.ListN.{length, getD, take, drop, replicate, length-replicate, drop-of-length-le}
 use lib.Seq.{sets, sets-eq, take-append-seam}
 use borrow.Author.Tests.{ne-eqb, le-ltb}
-use Rattle.effect.specs.Inner.{InRange}
+use Rattle.machine.specs.State.{InRange, mostCells, badCells}
 use Rattle.machine.specs.declared.Machine.{Machine}
-use Rattle.machine.specs.State.{mostCells, badCells}
 use Rattle.job.specs.Job.{nothingYet, Content, unnamed, refusalIn, loadOf}
 use Rattle.saver.specs.Saving.{recordOf, runsFrom, valuesFrom, setupOf, savedOf, saveOf}
 use Rattle.saver.proofs.Saving.{done}

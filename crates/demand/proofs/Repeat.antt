@@ -9,18 +9,17 @@ use native.Mathlib.Nat.{zero-add}
 use native.Mathlib.Omega.{arith}
 use lib.Dec.{leb, ltb, eqb}
 use lib.ListN.{length}
-use Rattle.cell.specs.declared.Instruction.{Instruction}
-use Rattle.cell.specs.declared.Instruction.the-variants.{Registers, Immediate, Reserved}
 use Rattle.effect.specs.declared.Answer.{Answer}
 use Rattle.effect.specs.declared.Answer.the-variants.{Onward, Interrupt}
 use Rattle.effect.specs.declared.Effect.{Effect}
-use Rattle.effect.specs.Operands.{pcOf, operandOf}
-use Rattle.effect.specs.Refusal.{floats, faults, refusedBy}
-use Rattle.effect.proofs.Safe.{picked}
-use Rattle.machine.specs.State.{State, capacityOf, badCells, badSettings}
+use Rattle.machine.specs.State.{pcOf, State, capacityOf, badCells, badSettings}
+use Rattle.effect.specs.Action.{Action, Cpswp, Ldst, Put, Operate, Split, Bz, Int, Float, Illegal}
+use Rattle.effect.specs.Operands.{reg}
+use Rattle.effect.specs.Refusal.{faults, refusedBy}
+use Rattle.machine.proofs.Tests.{picked}
 use Rattle.journal.specs.Journal.{endedOf, regsAfter, lastOf, damagedOf, undoOf}
 use Rattle.machine.specs.Stops.{Said, plainly}
-use Rattle.turn.specs.Step.{Course, going, stopped, refused, trapsOf, answered, courseOf, refusalOf, effectIn, instructionOf, moved, stepOf}
+use Rattle.turn.specs.Step.{Course, going, stopped, refused, trapsOf, answered, courseOf, refusalOf, effectIn, actionIn, moved, stepOf}
 use Rattle.runner.specs.Calls.{Out, onward, runFrom, backFrom, checkOf, called, callOf, stopAt, runOf, backOf}
 use Rattle.runner.proofs.Counts.{step-refused, run-count, back-count}
 use Rattle.demand.specs.Journey.{steps}
@@ -40,13 +39,18 @@ Fine going = Prim.Unit {0}
 Fine (stopped x) = listed stepStops (x .number) ≡ true
 Fine (refused x) = listed stepStops (x .number) ≡ true
 
-by-instruction : (i : Instruction) (regs : List ℕ) (size : ℕ) → Named stepStops (refusedBy i regs size)
+by-action : (a : Action) (s : State) → Named stepStops (refusedBy a s)
 unfolding refusedBy listed
-by-instruction (Registers x n m l) regs size =
-    picked (Named stepStops) (floats x) _ _ (λ t. refl) (λ t.
-    picked (Named stepStops) (eqb x 1 && (faults size (operandOf regs l) || faults size (operandOf regs m))) _ _ (λ t. refl) (λ t. tt))
-by-instruction (Immediate x n imm) regs size = picked (Named stepStops) (floats x) _ _ (λ t. refl) (λ t. tt)
-by-instruction (Reserved c) regs size = tt
+by-action (Cpswp n m l) s = tt
+by-action (Ldst n m l) s =
+    picked (Named stepStops) (faults (length (s .cells)) (reg s l) || faults (length (s .cells)) (reg s m)) _ _ (λ t. refl) (λ t. tt)
+by-action (Put n v) s = tt
+by-action (Operate op n x y) s = tt
+by-action (Split x n m l) s = tt
+by-action (Bz n imm) s = tt
+by-action (Int n imm) s = tt
+by-action Float s = refl
+by-action Illegal s = tt
 
 refusal-named : (s : State) → Named stepStops (refusalOf s)
 unfolding refusalOf listed
@@ -54,7 +58,7 @@ refusal-named s =
     picked (Named stepStops) (endedOf (s .regs)) _ _ (λ t. refl) (λ t.
     picked (Named stepStops) (leb (length (s .cells)) (pcOf (s .regs))) _ _ (λ t. refl) (λ t.
     picked (Named stepStops) (leb (capacityOf (s .journal)) (s .depth)) _ _ (λ t. refl) (λ t.
-    by-instruction (instructionOf s) (s .regs) (length (s .cells)))))
+    by-action (actionIn s) s)))
 
 answer-fine : (a : Answer) (e : Effect) → Fine (answered a e)
 unfolding listed

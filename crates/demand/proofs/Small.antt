@@ -8,8 +8,10 @@ use Rattle.cell.specs.Cell.{legal, immediate, formOf, decodeOf}
 use Rattle.text.specs.Text.{digits, decimal}
 use Rattle.mnemonic.specs.Mnemonic.{mnemonics, wordOf}
 use Rattle.line.specs.Line.{lineOf}
-use Rattle.effect.specs.Operands.{operandOf}
-use Rattle.effect.specs.Effect.{flagsOf, operationOf, loadOf, ldstOf, bzOf, registersOf, immediateOf, effectOf, behindOf}
+use Rattle.effect.specs.Action.{actionOf}
+use Rattle.effect.specs.Operands.{operandOf, behind}
+use Rattle.effect.specs.Parts.{flagsOf}
+use Rattle.effect.specs.Effect.{effectOf}
 use Rattle.effect.specs.Refusal.{refusedBy}
 use Rattle.machine.specs.State.{entriesIn, capacityOf}
 use Rattle.journal.specs.Journal.{regsAfter, cellsAfter, settingsAfter, entryOf}
@@ -18,5 +20,5 @@ use Rattle.runner.specs.Calls.{runFrom, checkOf}
 use Rattle.demand.specs.Cases.{cases, holds, all}
 
 pub small-cases : all holds cases ≡ true
-unfolding all cases holds seOf exOf writtenOf opOf askedOf legal immediate formOf decodeOf digits decimal mnemonics wordOf lineOf operandOf flagsOf operationOf loadOf ldstOf bzOf registersOf immediateOf effectOf behindOf refusedBy capacityOf entriesIn regsAfter cellsAfter settingsAfter entryOf refusalOf effectIn courseOf stepOf runFrom checkOf
+unfolding all cases holds seOf exOf writtenOf opOf askedOf legal immediate formOf decodeOf digits decimal mnemonics wordOf lineOf actionOf operandOf behind flagsOf effectOf refusedBy capacityOf entriesIn regsAfter cellsAfter settingsAfter entryOf refusalOf effectIn courseOf stepOf runFrom checkOf
 small-cases = refl

@@ -15,8 +15,9 @@ use Rattle.effect.specs.declared.Effect.{Effect}
 use Rattle.machine.specs.State.{State, mostCells, capacityOf}
 use Rattle.journal.specs.Journal.{applyOf, lastOf, damagedOf, undoOf}
 use Rattle.machine.specs.Stops.{Said, plainly}
-use Rattle.turn.specs.Step.{Course, going, stopped, refused, effectIn, refusalOf, moved, stepOf}
+use Rattle.turn.specs.Step.{Course, going, stopped, refused, actionIn, effectIn, refusalOf, moved, stepOf}
 use Rattle.runner.specs.Calls.{Out, stopAt, onward, runFrom, backFrom, checkOf, called, backOf}
+use Rattle.effect.proofs.Blind as blind
 use Rattle.turn.proofs.Steps.{room}
 use Rattle.turn.proofs.Keeps.{clear, formed-in, lawful-after}
 use Rattle.machine.proofs.Lawful.{Lawful}
@@ -70,11 +71,11 @@ module _ (s₀ : State) (lawful₀ : Lawful s₀) (empty : s₀ .depth ≡ 0) wh
 
   refusal-blind : (t : State) (j : List ℕ) → length j ≡ length (t .journal) → refusalOf (withJournal t j) ≡ refusalOf t
   unfolding refusalOf
-  refusal-blind t j long = rw (capacity-blind t j long)
+  refusal-blind t j long = rw (capacity-blind t j long, blind.refusal-blind t (t .depth) j (actionIn t))
 
   effect-blind : (t : State) (j : List ℕ) → effectIn (withJournal t j) ≡ effectIn t
   unfolding effectIn
-  effect-blind t j = refl
+  effect-blind t j = blind.effect-blind t (t .depth) j (actionIn t)
 
   -- a step forward that is done
   took : (t : State) (j : List ℕ) {n f b : ℕ} → Trace n t → f ≡ b + n → take (8 * t .depth) j ≡ take (8 * t .depth) (t .journal)

@@ -3,9 +3,8 @@ use Prim.Native.Nat.{ℕ, _^_, _<_, _≤_}
 use mathlib.Core.Path.{_≡_}
 use mathlib.Core.List.{List}
 use lib.ListN.{length, getD}
-use Rattle.effect.specs.Inner.{InRange}
+use Rattle.machine.specs.State.{InRange, mostCells}
 use Rattle.machine.specs.declared.Machine.{Machine}
-use Rattle.machine.specs.State.{mostCells}
 use Rattle.job.specs.Job.{Load}
 
 -- 32-bit words

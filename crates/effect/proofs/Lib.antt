@@ -3,3 +3,4 @@ pub mod Safe
 pub mod Ranges
 pub mod Short
 pub mod Opcodes
+pub mod Blind

@@ -1,25 +1,26 @@
--- What becomes of a cell, by its opcode: the opcodes of their own one by one, then the operations, the float opcodes and the reserved ones.
-use Prim.Native.Nat.{ℕ, _+_, _*_, _/_, _%_, _^_, _<_}
-use mathlib.Core.Path.{_≡_, refl, _∙_}
+-- What a cell asks for, by its opcode: the opcodes of their own one by one, then all others by one law.
+-- Assumes nothing.
+use Prim.Native.Nat.{ℕ, _+_, _/_, _%_, _^_, _<_}
+use mathlib.Core.Path.{_≡_, refl}
 use mathlib.Core.Bool.{Bool, true, false, cond, not, _&&_, _||_}
-use mathlib.Core.List.{List}
 use native.Mathlib.Omega.{arith}
-use lib.Dec.{ltb, eqb}
+use lib.Dec.{eqb}
+use Rattle.half.specs.Half.{seOf}
 use Rattle.word.specs.declared.Asked.{Asked}
 use Rattle.word.specs.declared.Asked.the-variants.{Given, Turned, Other}
-use Rattle.half.specs.Half.{seOf, exOf}
-use Rattle.word.specs.Word.{opOf, askedOf}
+use Rattle.word.specs.Word.{wrap, opOf, askedOf, operatedBy}
 use Rattle.cell.specs.declared.Form.{Form}
 use Rattle.cell.specs.declared.Form.the-variants as form
 use Rattle.cell.specs.declared.Instruction.the-variants.{Registers, Immediate}
 use Rattle.cell.specs.Cell.{legal, immediate, formOf, opcodeOf, nOf, mOf, lOf, immOf, decodeOf}
 use Rattle.cell.proofs.Tests.{count, everywhere, never, both-left, both-right}
-use Rattle.effect.specs.declared.Settings.{Settings}
-use Rattle.effect.specs.declared.execute.Considered.the-variants.{Float, Does}
-use Rattle.effect.specs.Operands.{nextOf, operandOf}
-use Rattle.effect.specs.Effect.{writesOf, illegalOf, intOf, bzOf, operationOf, registersOf, immediateOf, effectOf, behindOf}
-use Rattle.effect.specs.Refusal.{floats, refusedBy}
-use Rattle.effect.specs.Inner.{takesImm, branchOf, movesBy, pairBy, transferOf, remainingOf, consideredOf}
+use Rattle.machine.specs.State.{State}
+use Rattle.effect.specs.Action.{Se, Ex, Value, R, Imm, Extended, Lower, Upper, Action, Cpswp, Ldst, Put, Split, Bz, Int, Float, operation, floats, actionOf}
+use Rattle.effect.specs.Operands.{nextOf, reg}
+use Rattle.effect.specs.Parts.{onward, still, _▸_, gain}
+use Rattle.effect.specs.Effect.{effectOf}
+use Rattle.effect.specs.Refusal.{refusedBy}
+use Rattle.effect.specs.Inner.{does, toldOf, takesImm, remaining, ldstBy, transferBy}
 
 -- a cell whose opcode is k, in k's form
 registers-at : (c k : ℕ) → opcodeOf c ≡ k → formOf k ≡ form.Registers → decodeOf c ≡ Registers k (nOf c) (mOf c) (lOf c)
@@ -30,73 +31,82 @@ immediate-at : (c k : ℕ) → opcodeOf c ≡ k → formOf k ≡ form.Immediate 
 unfolding decodeOf
 immediate-at c k e f = rw (e, f, e)
 
-module _ (c : ℕ) (regs : List ℕ) (s : Settings) (cells : List ℕ) where
-  pub swaps : opcodeOf c ≡ 0 → Does (pairBy true (operandOf regs (mOf c)) (operandOf regs (nOf c)) (nextOf regs) (nOf c) (lOf c) s) ≡ consideredOf (decodeOf c) regs s cells
-  unfolding formOf legal immediate consideredOf refusedBy effectOf registersOf
-  swaps e = rw (registers-at c 0 e refl)
+module _ (c : ℕ) where
+  pub cpswp : opcodeOf c ≡ 0 → actionOf (decodeOf c) ≡ Cpswp (nOf c) (mOf c) (lOf c)
+  unfolding formOf legal immediate actionOf
+  cpswp e = rw (registers-at c 0 e refl)
 
-  pub transfers : opcodeOf c ≡ 1 → transferOf (nOf c) (operandOf regs (nOf c)) (operandOf regs (mOf c)) (operandOf regs (lOf c)) (nextOf regs) s cells ≡ consideredOf (decodeOf c) regs s cells
-  unfolding formOf legal immediate consideredOf refusedBy effectOf behindOf registersOf transferOf
-  transfers e = rw (registers-at c 1 e refl)
+  ldst : opcodeOf c ≡ 1 → actionOf (decodeOf c) ≡ Ldst (nOf c) (mOf c) (lOf c)
+  unfolding formOf legal immediate actionOf
+  ldst e = rw (registers-at c 1 e refl)
 
-  pub lower : opcodeOf c ≡ 3 → Does (writesOf (nOf c) (operandOf regs (nOf c) / 65536 * 65536 + immOf c) (nextOf regs) s) ≡ consideredOf (decodeOf c) regs s cells
-  unfolding formOf legal immediate consideredOf refusedBy effectOf immediateOf
-  lower e = rw (immediate-at c 3 e refl)
+  pub ldli : opcodeOf c ≡ 3 → actionOf (decodeOf c) ≡ Put (nOf c) (Lower (nOf c) (immOf c))
+  unfolding formOf legal immediate actionOf
+  ldli e = rw (immediate-at c 3 e refl)
 
-  pub upper : opcodeOf c ≡ 4 → Does (writesOf (nOf c) (immOf c * 65536 + operandOf regs (nOf c) % 65536) (nextOf regs) s) ≡ consideredOf (decodeOf c) regs s cells
-  unfolding formOf legal immediate consideredOf refusedBy effectOf immediateOf
-  upper e = rw (immediate-at c 4 e refl)
+  pub ldui : opcodeOf c ≡ 4 → actionOf (decodeOf c) ≡ Put (nOf c) (Upper (nOf c) (immOf c))
+  unfolding formOf legal immediate actionOf
+  ldui e = rw (immediate-at c 4 e refl)
 
-  pub plain : opcodeOf c ≡ 5 → Does (writesOf (nOf c) (immOf c) (nextOf regs) s) ≡ consideredOf (decodeOf c) regs s cells
-  unfolding formOf legal immediate consideredOf refusedBy effectOf immediateOf
-  plain e = rw (immediate-at c 5 e refl)
+  pub ldliz : opcodeOf c ≡ 5 → actionOf (decodeOf c) ≡ Put (nOf c) (Imm (immOf c))
+  unfolding formOf legal immediate actionOf
+  ldliz e = rw (immediate-at c 5 e refl)
 
-  pub extended : opcodeOf c ≡ 6 → Does (writesOf (nOf c) (seOf (immOf c)) (nextOf regs) s) ≡ consideredOf (decodeOf c) regs s cells
-  unfolding formOf legal immediate consideredOf refusedBy effectOf immediateOf
-  extended e = rw (immediate-at c 6 e refl)
+  pub ldlise : opcodeOf c ≡ 6 → actionOf (decodeOf c) ≡ Put (nOf c) (Extended Se (immOf c))
+  unfolding formOf legal immediate actionOf
+  ldlise e = rw (immediate-at c 6 e refl)
 
-  pub expanded : opcodeOf c ≡ 7 → Does (writesOf (nOf c) (exOf (immOf c)) (nextOf regs) s) ≡ consideredOf (decodeOf c) regs s cells
-  unfolding formOf legal immediate consideredOf refusedBy effectOf immediateOf
-  expanded e = rw (immediate-at c 7 e refl)
+  pub ldlif : opcodeOf c ≡ 7 → actionOf (decodeOf c) ≡ Put (nOf c) (Extended Ex (immOf c))
+  unfolding formOf legal immediate actionOf
+  ldlif e = rw (immediate-at c 7 e refl)
 
-  pub splits : opcodeOf c ≡ 54 → Does (pairBy false (seOf (operandOf regs (nOf c) % 65536)) (seOf (operandOf regs (nOf c) / 65536)) (nextOf regs) (mOf c) (lOf c) s) ≡ consideredOf (decodeOf c) regs s cells
-  unfolding formOf legal immediate consideredOf refusedBy effectOf registersOf
-  splits e = rw (registers-at c 54 e refl)
+  pub split : opcodeOf c ≡ 54 → actionOf (decodeOf c) ≡ Split Se (nOf c) (mOf c) (lOf c)
+  unfolding formOf legal immediate actionOf
+  split e = rw (registers-at c 54 e refl)
 
-  pub float-splits : opcodeOf c ≡ 107 → Does (pairBy false (exOf (operandOf regs (nOf c) % 65536)) (exOf (operandOf regs (nOf c) / 65536)) (nextOf regs) (mOf c) (lOf c) s) ≡ consideredOf (decodeOf c) regs s cells
-  unfolding formOf legal immediate consideredOf refusedBy effectOf registersOf
-  float-splits e = rw (registers-at c 107 e refl)
+  pub fsplit : opcodeOf c ≡ 107 → actionOf (decodeOf c) ≡ Split Ex (nOf c) (mOf c) (lOf c)
+  unfolding formOf legal immediate actionOf
+  fsplit e = rw (registers-at c 107 e refl)
 
-  pub branches : opcodeOf c ≡ 121 → Does (movesBy (branchOf (operandOf regs (nOf c)) (immOf c) (nextOf regs)) 0 (s .flags) s) ≡ consideredOf (decodeOf c) regs s cells
-  unfolding formOf legal immediate consideredOf refusedBy effectOf immediateOf bzOf branchOf
-  branches e = rw (immediate-at c 121 e refl)
+  bz : opcodeOf c ≡ 121 → actionOf (decodeOf c) ≡ Bz (nOf c) (immOf c)
+  unfolding formOf legal immediate actionOf
+  bz e = rw (immediate-at c 121 e refl)
 
-  pub interrupts : opcodeOf c ≡ 122 → Does (intOf (operandOf regs (nOf c)) (immOf c) (nextOf regs) s) ≡ consideredOf (decodeOf c) regs s cells
-  unfolding formOf legal immediate consideredOf refusedBy effectOf immediateOf
-  interrupts e = rw (immediate-at c 122 e refl)
+  pub int : opcodeOf c ≡ 122 → actionOf (decodeOf c) ≡ Int (nOf c) (immOf c)
+  unfolding formOf legal immediate actionOf
+  int e = rw (immediate-at c 122 e refl)
 
--- the forms of the opcodes that are left, found by one test over all 256
-abbrev numberOf : Form → ℕ
-numberOf form.Registers = 0
-numberOf form.Immediate = 1
-numberOf form.Reserved = 2
+-- LDST and BZ, as the code comes to them
+module _ (c : ℕ) (s : State) where
+  pub transfers : opcodeOf c ≡ 1 → transferBy (nOf c) (reg s (nOf c)) (reg s (mOf c)) (reg s (lOf c)) (s .settings) (s .cells) (still s) ≡ toldOf (actionOf (decodeOf c)) s
+  unfolding toldOf refusedBy effectOf transferBy ldstBy
+  transfers e = rw (ldst c e)
 
+  pub branches : opcodeOf c ≡ 121 → does (onward (cond (eqb (reg s (nOf c)) 0) (wrap (nextOf (s .regs) + seOf (immOf c))) (nextOf (s .regs))) (s .settings)) ≡ toldOf (actionOf (decodeOf c)) s
+  unfolding toldOf refusedBy effectOf
+  branches e = rw (bz c e) (go (eqb (reg s (nOf c)) 0))
+    where
+      go : (t : Bool) → does (onward (cond t (wrap (nextOf (s .regs) + seOf (immOf c))) (nextOf (s .regs))) (s .settings)) ≡ does (cond t (still s ▸ gain (seOf (immOf c))) (still s))
+      go true = refl
+      go false = refl
+
+-- the opcodes that are left, found by one test over all 256
 abbrev asks : Asked → Bool
 asks (Given op) = true
 asks (Turned op) = true
 asks Other = false
 
--- an operation's form goes by its operands; a float opcode is not reserved; all others are
-abbrev sorted : Bool → Bool → Bool → ℕ → Bool
-sorted true imm float f = eqb f (cond imm 1 0) && not float
-sorted false imm true f = ltb f 2
-sorted false imm false f = eqb f 2
+-- an operation's form goes by its operands; a float opcode asks for none; a reserved opcode is neither
+abbrev sorted : Form → Bool → Bool → Bool → Bool
+sorted form.Registers imm float asking = not imm
+sorted form.Immediate imm float asking = imm || float
+sorted form.Reserved imm float asking = not float && not asking
 
 abbrev own : ℕ → Bool
 own x = eqb x 0 || eqb x 1 || eqb x 3 || eqb x 4 || eqb x 5 || eqb x 6 || eqb x 7 || eqb x 54 || eqb x 107 || eqb x 121 || eqb x 122
 
 abbrev right : ℕ → Bool
-right x = own x || sorted (asks (askedOf x)) (takesImm x) (floats x) (numberOf (formOf x))
+right x = own x || (sorted (formOf x) (takesImm x) (floats x) (asks (askedOf x)) && not (asks (askedOf x) && floats x))
 
 all-right : count (λ (x : ℕ). not (right x)) 256 ≡ 0
 unfolding formOf legal immediate askedOf opOf
@@ -106,67 +116,65 @@ not-true : (b : Bool) → not b ≡ true → b ≡ false
 not-true true e = never (cc)
 not-true false e = refl
 
-is-registers : (f : Form) → eqb (numberOf f) 0 ≡ true → f ≡ form.Registers
-is-registers form.Registers e = refl
-is-registers form.Immediate e = never (cc)
-is-registers form.Reserved e = never (cc)
+asks-none : (a : Asked) → asks a ≡ false → a ≡ Other
+asks-none (Given op) e = never (cc)
+asks-none (Turned op) e = never (cc)
+asks-none Other e = refl
 
-is-immediate : (f : Form) → eqb (numberOf f) 1 ≡ true → f ≡ form.Immediate
-is-immediate form.Registers e = never (cc)
-is-immediate form.Immediate e = refl
-is-immediate form.Reserved e = never (cc)
+-- the values that an operation reads
+abbrev firstOf : Bool → ℕ → ℕ → Value
+firstOf imm n m = cond imm (R n) (R m)
 
-is-reserved : (f : Form) → eqb (numberOf f) 2 ≡ true → f ≡ form.Reserved
-is-reserved form.Registers e = never (cc)
-is-reserved form.Immediate e = never (cc)
-is-reserved form.Reserved e = refl
+abbrev secondOf : Bool → ℕ → ℕ → Value
+secondOf imm i l = cond imm (Extended Se i) (R l)
 
-module _ (c : ℕ) (regs : List ℕ) (s : Settings) (cells : List ℕ) (fits : c < 2 ^ 32)
+abbrev leftOf : ℕ → ℕ → Action
+leftOf x c = cond (floats x) Float (operation (askedOf x) (nOf c) (firstOf (takesImm x) (nOf c) (mOf c)) (secondOf (takesImm x) (immOf c) (lOf c)))
+
+-- what becomes of an operation, of a float opcode, and of a reserved one
+module _ (s : State) (n m l i : ℕ) where
+  both : (a : Asked) (imm float : Bool) → not (asks a && float) ≡ true
+      → remaining (operatedBy a (cond imm (reg s n) (reg s m)) (cond imm (seOf i) (reg s l)) (reg s n) (s .settings .flags)) float n (still s)
+      ≡ toldOf (cond float Float (operation a n (firstOf imm n m) (secondOf imm i l))) s
+  unfolding operatedBy toldOf refusedBy effectOf
+  both (Given op) true true h = never (cc)
+  both (Given op) false true h = never (cc)
+  both (Given op) true false h = refl
+  both (Given op) false false h = refl
+  both (Turned op) true true h = never (cc)
+  both (Turned op) false true h = never (cc)
+  both (Turned op) true false h = refl
+  both (Turned op) false false h = refl
+  both Other imm true h = refl
+  both Other imm false h = refl
+
+module _ (c : ℕ) (fits : c < 2 ^ 32)
     (n0 : eqb (opcodeOf c) 0 ≡ false) (n1 : eqb (opcodeOf c) 1 ≡ false) (n3 : eqb (opcodeOf c) 3 ≡ false) (n4 : eqb (opcodeOf c) 4 ≡ false)
     (n5 : eqb (opcodeOf c) 5 ≡ false) (n6 : eqb (opcodeOf c) 6 ≡ false) (n7 : eqb (opcodeOf c) 7 ≡ false) (n54 : eqb (opcodeOf c) 54 ≡ false)
     (n107 : eqb (opcodeOf c) 107 ≡ false) (n121 : eqb (opcodeOf c) 121 ≡ false) (n122 : eqb (opcodeOf c) 122 ≡ false) where
-  rightly : sorted (asks (askedOf (opcodeOf c))) (takesImm (opcodeOf c)) (floats (opcodeOf c)) (numberOf (formOf (opcodeOf c))) ≡ true
+  rightly : (sorted (formOf (opcodeOf c)) (takesImm (opcodeOf c)) (floats (opcodeOf c)) (asks (askedOf (opcodeOf c))) && not (asks (askedOf (opcodeOf c)) && floats (opcodeOf c))) ≡ true
   rightly = rw (n0, n1, n3, n4, n5, n6, n7, n54, n107, n121, n122) at (everywhere right 256 all-right (opcodeOf c) (omega arith))
 
-  by-registers : formOf (opcodeOf c) ≡ form.Registers → floats (opcodeOf c) ≡ false → Does (operationOf (askedOf (opcodeOf c)) (nOf c) (operandOf regs (mOf c)) (operandOf regs (lOf c)) (operandOf regs (nOf c)) (nextOf regs) s) ≡ consideredOf (decodeOf c) regs s cells
-  unfolding consideredOf refusedBy effectOf registersOf
-  by-registers e f = rw (registers-at c (opcodeOf c) refl e, f, n0, n1, n54, n107)
+  cases : (f : Form) → formOf (opcodeOf c) ≡ f → sorted f (takesImm (opcodeOf c)) (floats (opcodeOf c)) (asks (askedOf (opcodeOf c))) ≡ true → actionOf (decodeOf c) ≡ leftOf (opcodeOf c) c
+  unfolding decodeOf actionOf
+  cases form.Registers e t = rw (e, n0, n1, n54, n107, not-true (takesImm (opcodeOf c)) t)
+  cases form.Immediate e t = rw (e, n3, n4, n5, n6, n7, n121, n122) (go (takesImm (opcodeOf c)) (floats (opcodeOf c)) t)
+    where
+      go : (imm float : Bool) → (imm || float) ≡ true
+          → cond float Float (operation (askedOf (opcodeOf c)) (nOf c) (R (nOf c)) (Extended Se (immOf c)))
+          ≡ cond float Float (operation (askedOf (opcodeOf c)) (nOf c) (firstOf imm (nOf c) (mOf c)) (secondOf imm (immOf c) (lOf c)))
+      go true float h = refl
+      go false true h = refl
+      go false false h = never (cc)
+  cases form.Reserved e t =
+      let f = not-true (floats (opcodeOf c)) (both-left (not (floats (opcodeOf c))) (not (asks (askedOf (opcodeOf c)))) t) in
+      let a = asks-none (askedOf (opcodeOf c)) (not-true _ (both-right (not (floats (opcodeOf c))) (not (asks (askedOf (opcodeOf c)))) t)) in
+      rw (e, f, a)
 
-  by-immediate : formOf (opcodeOf c) ≡ form.Immediate → floats (opcodeOf c) ≡ false → Does (operationOf (askedOf (opcodeOf c)) (nOf c) (operandOf regs (nOf c)) (seOf (immOf c)) (operandOf regs (nOf c)) (nextOf regs) s) ≡ consideredOf (decodeOf c) regs s cells
-  unfolding consideredOf refusedBy effectOf immediateOf
-  by-immediate e f = rw (immediate-at c (opcodeOf c) refl e, f, n3, n4, n5, n6, n7, n121, n122)
-
-  by-float : (f : Form) → formOf (opcodeOf c) ≡ f → ltb (numberOf f) 2 ≡ true → floats (opcodeOf c) ≡ true → Float ≡ consideredOf (decodeOf c) regs s cells
-  unfolding consideredOf refusedBy
-  by-float form.Registers e t f = rw (registers-at c (opcodeOf c) refl e, f)
-  by-float form.Immediate e t f = rw (immediate-at c (opcodeOf c) refl e, f)
-  by-float form.Reserved e t f = never (cc)
-
-  by-reserved : formOf (opcodeOf c) ≡ form.Reserved → Does (illegalOf (nextOf regs) s) ≡ consideredOf (decodeOf c) regs s cells
-  unfolding decodeOf consideredOf refusedBy effectOf
-  by-reserved e = rw e
-
-  cases : (a : Asked) (imm float : Bool) → askedOf (opcodeOf c) ≡ a → takesImm (opcodeOf c) ≡ imm → floats (opcodeOf c) ≡ float → sorted (asks a) imm float (numberOf (formOf (opcodeOf c))) ≡ true
-      → remainingOf a float (nOf c) (cond imm (operandOf regs (nOf c)) (operandOf regs (mOf c))) (cond imm (seOf (immOf c)) (operandOf regs (lOf c))) (operandOf regs (nOf c)) (nextOf regs) s ≡ consideredOf (decodeOf c) regs s cells
-  unfolding remainingOf operationOf
-  cases (Given op) true float p q r t =
-      let e = both-left (eqb (numberOf (formOf (opcodeOf c))) 1) (not float) t in
-      let f = both-right (eqb (numberOf (formOf (opcodeOf c))) 1) (not float) t in
-      rw (← by-immediate (is-immediate (formOf (opcodeOf c)) e) (r ∙ not-true float f), p)
-  cases (Given op) false float p q r t =
-      let e = both-left (eqb (numberOf (formOf (opcodeOf c))) 0) (not float) t in
-      let f = both-right (eqb (numberOf (formOf (opcodeOf c))) 0) (not float) t in
-      rw (← by-registers (is-registers (formOf (opcodeOf c)) e) (r ∙ not-true float f), p)
-  cases (Turned op) true float p q r t =
-      let e = both-left (eqb (numberOf (formOf (opcodeOf c))) 1) (not float) t in
-      let f = both-right (eqb (numberOf (formOf (opcodeOf c))) 1) (not float) t in
-      rw (← by-immediate (is-immediate (formOf (opcodeOf c)) e) (r ∙ not-true float f), p)
-  cases (Turned op) false float p q r t =
-      let e = both-left (eqb (numberOf (formOf (opcodeOf c))) 0) (not float) t in
-      let f = both-right (eqb (numberOf (formOf (opcodeOf c))) 0) (not float) t in
-      rw (← by-registers (is-registers (formOf (opcodeOf c)) e) (r ∙ not-true float f), p)
-  cases Other imm true p q r t = by-float (formOf (opcodeOf c)) refl t r
-  cases Other imm false p q r t = by-reserved (is-reserved (formOf (opcodeOf c)) t)
-
-  pub remaining : remainingOf (askedOf (opcodeOf c)) (floats (opcodeOf c)) (nOf c) (cond (takesImm (opcodeOf c)) (operandOf regs (nOf c)) (operandOf regs (mOf c))) (cond (takesImm (opcodeOf c)) (seOf (immOf c)) (operandOf regs (lOf c))) (operandOf regs (nOf c)) (nextOf regs) s ≡ consideredOf (decodeOf c) regs s cells
-  remaining = cases (askedOf (opcodeOf c)) (takesImm (opcodeOf c)) (floats (opcodeOf c)) refl refl refl rightly
+  pub all-others : (s : State)
+      → remaining (operatedBy (askedOf (opcodeOf c)) (cond (takesImm (opcodeOf c)) (reg s (nOf c)) (reg s (mOf c))) (cond (takesImm (opcodeOf c)) (seOf (immOf c)) (reg s (lOf c))) (reg s (nOf c)) (s .settings .flags)) (floats (opcodeOf c)) (nOf c) (still s)
+      ≡ toldOf (actionOf (decodeOf c)) s
+  all-others s =
+      let form-fits = both-left (sorted (formOf (opcodeOf c)) (takesImm (opcodeOf c)) (floats (opcodeOf c)) (asks (askedOf (opcodeOf c)))) (not (asks (askedOf (opcodeOf c)) && floats (opcodeOf c))) rightly in
+      let alone = both-right (sorted (formOf (opcodeOf c)) (takesImm (opcodeOf c)) (floats (opcodeOf c)) (asks (askedOf (opcodeOf c)))) (not (asks (askedOf (opcodeOf c)) && floats (opcodeOf c))) rightly in
+      rw (cases (formOf (opcodeOf c)) refl form-fits) (both s (nOf c) (mOf c) (lOf c) (immOf c) (askedOf (opcodeOf c)) (takesImm (opcodeOf c)) (floats (opcodeOf c)) alone)

@@ -6,7 +6,7 @@ use mathlib.Core.Bool.{Bool, true, false}
 use native.Mathlib.Omega.{arith}
 use lib.Dec.{leb}
 use borrow.Author.Tests.{leb-false, ltb-false}
-use Rattle.effect.specs.Operands.{firstSpecial}
+use Rattle.machine.specs.State.{firstSpecial}
 use Rattle.effect.specs.Refusal.{faults}
 
 pub no-fault : (m p : ℕ) → faults m p ≡ false → p < firstSpecial → p < m

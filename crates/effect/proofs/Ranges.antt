@@ -1,29 +1,29 @@
 -- Every effect names registers 0 to 255 and holds 32-bit numbers, given registers, cells and settings that do.
 -- Assumes nothing.
 use Prim.Native.Nat.{ℕ, _+_, _*_, _/_, _%_, _^_, _<_}
-use mathlib.Core.Bool.{true, cond, _&&_, _||_}
+use mathlib.Core.Bool.{true, cond, _||_}
 use mathlib.Core.List.{List}
 use native.Mathlib.Omega.{arith}
-use lib.Dec.{leb, ltb, eqb}
+use lib.Dec.{ltb, eqb}
 use lib.ListN.{getD}
-use Rattle.word.specs.declared.Op.{Op}
 use Rattle.word.specs.declared.Asked.{Asked}
 use Rattle.word.specs.declared.Asked.the-variants.{Given, Turned, Other}
+use Rattle.word.specs.declared.Op.{Op}
 use Rattle.half.specs.Half.{seOf, exOf}
-use Rattle.word.specs.Word.{writtenOf, askedOf}
+use Rattle.word.specs.Word.{askedOf}
 use Rattle.word.proofs.Bounds.{value-below}
 use Rattle.half.proofs.Bounds.{se-below, ex-below}
 use Rattle.cell.specs.declared.Instruction.{Instruction}
 use Rattle.cell.specs.declared.Instruction.the-variants.{Registers, Immediate, Reserved}
 use Rattle.cell.proofs.Fields as fields
-use Rattle.effect.specs.declared.Settings.{Settings}
+use Rattle.machine.specs.State.{State, firstSpecial, InRange}
+use Rattle.machine.proofs.Tests.{picked}
 use Rattle.effect.specs.declared.Write.{Write}
-use Rattle.effect.specs.declared.Store.{Store}
 use Rattle.effect.specs.declared.Effect.{Effect}
-use Rattle.effect.specs.Operands.{firstSpecial, nextOf, operandOf}
-use Rattle.effect.specs.Effect.{noWrite, noStore, gets, stillOf, writesOf, illegalOf, splitOf, operatedOf, operationOf, loadOf, flagsAddress, maskAddress, illegalLoad, illegalStore, ldstOf, bzOf, registersOf, immediateOf, effectOf, behindOf}
-use Rattle.effect.specs.Inner.{InRange}
-use Rattle.effect.proofs.Safe.{picked}
+use Rattle.effect.specs.Action.{Extension, Se, Ex, Value, R, Imm, Extended, Lower, Upper, Action, Cpswp, Ldst, Put, Split, Bz, Int, Float, Illegal, operation, floats, actionOf}
+use Rattle.effect.specs.Operands.{nextOf, operandOf, reg, extended, valueOf, flagsAddress, maskAddress, modeAddress, behind}
+use Rattle.effect.specs.Parts.{noWrite, still, store, load}
+use Rattle.effect.specs.Effect.{illegalLoad, illegalStore, effectOf}
 
 abbrev pub Word : ℕ → Type 0
 Word x = x < 2 ^ 32
@@ -43,92 +43,100 @@ unused = (omega arith, omega arith)
 either : (t : _) (x y : ℕ) → Word x → Word y → Word (cond t x y)
 either t x y p q = picked Word t x y (λ h. p) (λ h. q)
 
-module _ (s : Settings) (pc : ℕ) (pc-fits : Word pc) where
-  still : Ranged (stillOf pc s)
-  still = record { pc = pc-fits; a = unused; b = unused; store = omega arith }
+extended-below : (e : Extension) (x : ℕ) → x < 2 ^ 16 → Word (extended e x)
+extended-below Se x h = se-below x h
+extended-below Ex x h = ex-below x h
 
-  illegal : Ranged (illegalOf pc s)
-  illegal = record { pc = pc-fits; a = unused; b = unused; store = omega arith }
-
-  writes : (n v : ℕ) → n < 256 → Word v → Ranged (writesOf n v pc s)
-  writes n v n-fits v-fits = record { pc = pc-fits; a = (n-fits, v-fits); b = unused; store = omega arith }
-
-  module _ (n : ℕ) (n-fits : n < 256) where
-    operated : (op : Op) (m l rn : ℕ) → Word m → Word l → Word rn → Ranged (operatedOf (writtenOf op m l rn (s .flags)) n pc s)
-    operated op m l rn m-fits l-fits rn-fits =
-        record { pc = pc-fits; a = (n-fits, value-below m l rn m-fits l-fits rn-fits op (s .flags)); b = unused; store = omega arith }
-
-    operation : (asked : Asked) (m l rn : ℕ) → Word m → Word l → Word rn → Ranged (operationOf asked n m l rn pc s)
-    unfolding operationOf
-    operation (Given op) m l rn p q r = operated op m l rn p q r
-    operation (Turned op) m l rn p q r = operated op l m rn q p r
-    operation Other m l rn p q r = still
-
-    ldst : (rn rm rl v : ℕ) → Word rn → Word v → Ranged (ldstOf n rn rm rl v pc s)
-    unfolding ldstOf
-    ldst rn rm rl v rn-fits v-fits =
-        picked Ranged (illegalLoad rl || illegalStore rm rn) _ _ (λ t. illegal) (λ t. record {
-          pc = pc-fits;
-          a = picked Written (eqb rl 0) noWrite (gets n v) (λ u. unused) (λ u. (n-fits, v-fits));
-          b = unused;
-          store = picked (λ (x : Store). Word (x .value)) (leb 1 rm && ltb rm firstSpecial) (record { used = true; address = rm; value = rn }) noStore (λ u. rn-fits) (λ u. omega arith);
-        })
-
-  halves : (extended : ℕ → ℕ) → ((x : ℕ) → x < 2 ^ 16 → Word (extended x)) → (m l rn : ℕ) → m < 256 → l < 256 → Word rn → Ranged (splitOf extended m l rn pc s)
-  halves extended fits m l rn m-fits l-fits rn-fits = record {
-    pc = pc-fits;
-    a = (m-fits, fits (rn % 65536) (omega arith));
-    b = (l-fits, fits (rn / 65536) (omega arith));
-    store = omega arith;
-  }
-
-  registers : (x n m l rn rm rl v : ℕ) → n < 256 → m < 256 → l < 256 → Word rn → Word rm → Word rl → Word v → Ranged (registersOf x n m l rn rm rl v pc s)
-  unfolding registersOf
-  registers x n m l rn rm rl v n-fits m-fits l-fits rn-fits rm-fits rl-fits v-fits =
-      picked Ranged (eqb x 0) _ _ (λ t. record { pc = pc-fits; a = (n-fits, rm-fits); b = (l-fits, rn-fits); store = omega arith }) (λ t.
-      picked Ranged (eqb x 1) _ _ (λ t. ldst n n-fits rn rm rl v rn-fits v-fits) (λ t.
-      picked Ranged (eqb x 54) _ _ (λ t. halves seOf se-below m l rn m-fits l-fits rn-fits) (λ t.
-      picked Ranged (eqb x 107) _ _ (λ t. halves exOf ex-below m l rn m-fits l-fits rn-fits) (λ t.
-      operation n n-fits (askedOf x) rm rl rn rm-fits rl-fits rn-fits))))
-
-  immediate : (x n imm rn : ℕ) → n < 256 → imm < 65536 → Word rn → Ranged (immediateOf x n imm rn pc s)
-  unfolding immediateOf bzOf
-  immediate x n imm rn n-fits imm-fits rn-fits =
-      picked Ranged (eqb x 3) _ _ (λ t. writes n (rn / 65536 * 65536 + imm) n-fits (omega arith)) (λ t.
-      picked Ranged (eqb x 4) _ _ (λ t. writes n (imm * 65536 + rn % 65536) n-fits (omega arith)) (λ t.
-      picked Ranged (eqb x 5) _ _ (λ t. writes n imm n-fits (omega arith)) (λ t.
-      picked Ranged (eqb x 6) _ _ (λ t. writes n (seOf imm) n-fits (se-below imm imm-fits)) (λ t.
-      picked Ranged (eqb x 7) _ _ (λ t. writes n (exOf imm) n-fits (ex-below imm imm-fits)) (λ t.
-      picked Ranged (eqb x 121) _ _ (λ t. record { pc = either (eqb rn 0) ((pc + seOf imm) % 4294967296) pc (omega arith) pc-fits; a = unused; b = unused; store = omega arith }) (λ t.
-      picked Ranged (eqb x 122) _ _ (λ t. record { pc = pc-fits; a = unused; b = unused; store = omega arith }) (λ t.
-      operation n n-fits (askedOf x) rn (seOf imm) rn rn-fits (se-below imm imm-fits) rn-fits)))))))
-
-module _ (regs : List ℕ) (words : (i : ℕ) → Word (getD regs i 0)) where
-  next-below : Word (nextOf regs)
-  next-below = omega arith
-
-  operand-below : (i : ℕ) → Word (operandOf regs i)
+module _ (s : State) (words : (i : ℕ) → Word (getD (s .regs) i 0)) (cell-words : (i : ℕ) → Word (getD (s .cells) i 0)) (settled : InRange (s .settings)) where
+  reg-below : (i : ℕ) → Word (reg s i)
   unfolding operandOf
-  operand-below i = either (eqb i 255) (nextOf regs) (getD regs i 0) next-below (words i)
+  reg-below i = either (eqb i 255) (nextOf (s .regs)) (getD (s .regs) i 0) (omega arith) (words i)
 
-  pub ranged : (i : Instruction) → fields.InRange i → (s : Settings) (v : ℕ) → Word v → Ranged (effectOf i regs s v)
+  behind-below : (p : ℕ) → Word (behind (s .cells) (s .settings) p)
+  unfolding behind
+  behind-below p =
+      either (ltb p firstSpecial) (getD (s .cells) p 0) _ (cell-words p)
+      (either (eqb p flagsAddress) (s .settings .flags) _ (omega (arith, settled .flags))
+      (either (eqb p maskAddress) (s .settings .mask) (s .settings .mode) (omega (arith, settled .mask)) (omega (arith, settled .mode))))
+
+  stays : Ranged (still s)
+  stays = record { pc = omega arith; a = unused; b = unused; store = omega arith }
+
+  stored : (p v : ℕ) → Word v → Ranged (store p v (still s))
+  stored p v h =
+      picked Ranged (eqb p 0) _ _ (λ t. stays) (λ t.
+      picked Ranged (eqb p maskAddress) _ _ (λ t. record { pc = stays .pc; a = unused; b = unused; store = omega arith }) (λ t.
+      picked Ranged (eqb p modeAddress) _ _ (λ t. record { pc = stays .pc; a = unused; b = unused; store = omega arith }) (λ t.
+      record { pc = stays .pc; a = unused; b = unused; store = h })))
+
+  loaded : (p n v : ℕ) (e : Effect) → n < 256 → Word v → Ranged e → Ranged (load p n v e)
+  loaded p n v e n-fits v-fits r = picked Ranged (eqb p 0) _ _ (λ t. r) (λ t. record { pc = r .pc; a = (n-fits, v-fits); b = r .b; store = r .store })
+
+  -- an action whose effect is in range
+  abbrev Fine : Action → Type 0
+  Fine a = Ranged (effectOf a s)
+
+  ldst : (n m l : ℕ) → n < 256 → Fine (Ldst n m l)
   unfolding effectOf
-  ranged (Registers x n m l) f s v v-fits =
-      registers s _ next-below x n m l _ _ _ v (f .2) (f .3) (f .4) (operand-below n) (operand-below m) (operand-below l) v-fits
-  ranged (Immediate x n imm) f s v v-fits = immediate s _ next-below x n imm _ (f .2) (f .3) (operand-below n)
-  ranged (Reserved c) f s v v-fits = illegal s _ next-below
+  ldst n m l n-fits =
+      picked Ranged (illegalLoad (reg s l) || illegalStore (reg s m) (reg s n)) _ _
+      (λ t. record { pc = stays .pc; a = unused; b = unused; store = omega arith })
+      (λ t. loaded (reg s l) n _ _ n-fits (behind-below (reg s l)) (stored (reg s m) (reg s n) (reg-below n)))
 
-  -- the value behind a load pointer
-  module _ (s : Settings) (in-range : InRange s) (cells : List ℕ) (cell-words : (i : ℕ) → Word (getD cells i 0)) where
-    load-below : (p : ℕ) → Word (loadOf cells s p)
-    unfolding loadOf
-    load-below p =
-        either (ltb p firstSpecial) (getD cells p 0) _ (cell-words p)
-        (either (eqb p flagsAddress) (s .flags) _ (omega (arith, in-range .flags))
-        (either (eqb p maskAddress) (s .mask) (s .mode) (omega (arith, in-range .mask)) (omega (arith, in-range .mode))))
+  cpswp : (n m l : ℕ) → n < 256 → l < 256 → Fine (Cpswp n m l)
+  unfolding effectOf
+  cpswp n m l n-fits l-fits = record { pc = stays .pc; a = (n-fits, reg-below m); b = (l-fits, reg-below n); store = omega arith }
 
-    pub behind-below : (i : Instruction) → Word (behindOf i regs s cells)
-    unfolding behindOf
-    behind-below (Registers x n m l) = either (eqb x 1) (loadOf cells s (operandOf regs l)) 0 (load-below (operandOf regs l)) (omega arith)
-    behind-below (Immediate x n imm) = omega arith
-    behind-below (Reserved c) = omega arith
+  put : (n : ℕ) (v : Value) → n < 256 → Word (valueOf s v) → Fine (Put n v)
+  unfolding effectOf
+  put n v n-fits v-fits = record { pc = stays .pc; a = (n-fits, v-fits); b = unused; store = omega arith }
+
+  split : (x : Extension) (n m l : ℕ) → m < 256 → l < 256 → Fine (Split x n m l)
+  unfolding effectOf
+  split x n m l m-fits l-fits =
+      let h = reg-below n in
+      record { pc = stays .pc; a = (m-fits, extended-below x (reg s n % 65536) (omega arith)); b = (l-fits, extended-below x (reg s n / 65536) (omega arith)); store = omega arith }
+
+  bz : (n imm : ℕ) → Fine (Bz n imm)
+  unfolding effectOf
+  bz n imm = picked Ranged (eqb (reg s n) 0) _ _ (λ t. record { pc = omega arith; a = unused; b = unused; store = omega arith }) (λ t. stays)
+
+  int : (n imm : ℕ) → Fine (Int n imm)
+  unfolding effectOf
+  int n imm = record { pc = stays .pc; a = unused; b = unused; store = omega arith }
+
+  float : Fine Float
+  unfolding effectOf
+  float = stays
+
+  operated : (a : Asked) (n : ℕ) (x y : Value) → n < 256 → Word (valueOf s x) → Word (valueOf s y) → Fine (operation a n x y)
+  unfolding effectOf
+  operated (Given op) n x y n-fits p q = record { pc = stays .pc; a = (n-fits, value-below _ _ _ p q (reg-below n) op (s .settings .flags)); b = unused; store = omega arith }
+  operated (Turned op) n x y n-fits p q = record { pc = stays .pc; a = (n-fits, value-below _ _ _ q p (reg-below n) op (s .settings .flags)); b = unused; store = omega arith }
+  operated Other n x y n-fits p q = record { pc = stays .pc; a = unused; b = unused; store = omega arith }
+
+  reserved : Fine Illegal
+  unfolding effectOf
+  reserved = record { pc = stays .pc; a = unused; b = unused; store = omega arith }
+
+  pub ranged : (i : Instruction) → fields.InRange i → Ranged (effectOf (actionOf i) s)
+  unfolding actionOf
+  ranged (Registers x n m l) f =
+      picked Fine (eqb x 0) _ _ (λ t. cpswp n m l (f .2) (f .4)) (λ t.
+      picked Fine (eqb x 1) _ _ (λ t. ldst n m l (f .2)) (λ t.
+      picked Fine (eqb x 54) _ _ (λ t. split Se n m l (f .3) (f .4)) (λ t.
+      picked Fine (eqb x 107) _ _ (λ t. split Ex n m l (f .3) (f .4)) (λ t.
+      picked Fine (floats x) _ _ (λ t. float) (λ t.
+      operated (askedOf x) n (R m) (R l) (f .2) (reg-below m) (reg-below l))))))
+  ranged (Immediate x n imm) f =
+      let h = reg-below n in
+      picked Fine (eqb x 3) _ _ (λ t. put n (Lower n imm) (f .2) (omega (arith, f .3))) (λ t.
+      picked Fine (eqb x 4) _ _ (λ t. put n (Upper n imm) (f .2) (omega (arith, f .3))) (λ t.
+      picked Fine (eqb x 5) _ _ (λ t. put n (Imm imm) (f .2) (omega (arith, f .3))) (λ t.
+      picked Fine (eqb x 6) _ _ (λ t. put n (Extended Se imm) (f .2) (se-below imm (f .3))) (λ t.
+      picked Fine (eqb x 7) _ _ (λ t. put n (Extended Ex imm) (f .2) (ex-below imm (f .3))) (λ t.
+      picked Fine (eqb x 121) _ _ (λ t. bz n imm) (λ t.
+      picked Fine (eqb x 122) _ _ (λ t. int n imm) (λ t.
+      picked Fine (floats x) _ _ (λ t. float) (λ t.
+      operated (askedOf x) n (R n) (Extended Se imm) (f .2) h (se-below imm (f .3))))))))))
+  ranged (Reserved c) f = reserved

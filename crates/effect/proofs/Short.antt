@@ -1,68 +1,64 @@
--- What is said in short means the definition's effect.
+-- What is said in short means the definition's effect: LDST by its parts, and an LDST that only loads from memory or only stores to it.
+-- Assumes nothing.
 use Prim.Native.Nat.{ℕ, _<_}
 use mathlib.Core.Path.{_≡_, refl}
+use mathlib.Core.Bool.{Bool, true, false}
 use mathlib.Core.List.{List}
-use lib.ListN.{length, getD}
-use mathlib.Core.Bool.{Bool, true, false, cond}
 use native.Mathlib.Omega.{arith}
-use borrow.Author.Tests.{lt-ltb, le-ltb, lt-leb, le-leb, ne-eqb}
-use Rattle.word.specs.declared.Asked.{Asked}
-use Rattle.word.specs.declared.Asked.the-variants.{Given, Turned, Other}
-use Rattle.word.specs.declared.Operated.the-variants.{Wrote, Nothing}
-use Rattle.word.specs.declared.Written.{Written}
-use Rattle.word.specs.Word.{writtenOf, operatedBy}
-use Rattle.effect.specs.declared.Settings.{Settings}
-use Rattle.effect.specs.declared.execute.Considered.the-variants.{Float, Does}
-use Rattle.effect.specs.Operands.{firstSpecial}
-use Rattle.effect.specs.Effect.{stillOf, writesOf, illegalOf, flagsOf, modeAddress, maskAddress, loadOf, ldstOf}
+use lib.Dec.{eqb}
+use lib.ListN.{length, getD}
+use borrow.Author.Tests.{lt-ltb, le-ltb, lt-leb, le-leb, ne-eqb, eqb-true, eqb-false, leb-false}
+use Rattle.machine.specs.declared.Settings.{Settings}
+use Rattle.machine.specs.State.{firstSpecial}
+use Rattle.effect.specs.declared.Answer.the-variants.{Onward}
+use Rattle.effect.specs.Operands.{modeAddress, maskAddress, behind}
+use Rattle.effect.specs.Parts.{noWrite, onward, _▸_, writeA, writeCell, store as storeAt, load as loadAt}
+use Rattle.effect.specs.Effect.{illegalLoad, illegalStore}
 use Rattle.effect.specs.Refusal.{faults}
-use Rattle.effect.specs.Inner.{movesBy, writesBy, storesBy, transferOf, remainingOf}
+use Rattle.effect.specs.Inner.{does, loadedOf, storedOf, settingsOf, ldstBy, transferBy}
 
-never : {P : Type 0} → _≡_ {A = ℕ} 0 1 → P
-never z = absurd (omega arith)
+-- LDST that is legal, part by part
+module _ (n rn rm rl v pc : ℕ) (s : Settings) (legal : illegalStore rm rn ≡ false) where
+  go : (z m d l : Bool) → eqb rm 0 ≡ z → eqb rm maskAddress ≡ m → eqb rm modeAddress ≡ d → eqb rl 0 ≡ l
+      → record { pc = pc; raised = 0; settings = settingsOf rm rn s; a = loadedOf rl n v; b = noWrite; reversed = false; store = storedOf rm rn; answer = Onward }
+      ≡ (onward pc s ▸ storeAt rm rn ▸ loadAt rl n v)
+  go true m d true p q r u = rw (eqb-true rm 0 p, u)
+  go true m d false p q r u = rw (eqb-true rm 0 p, u)
+  go false true d true p q r u = rw (eqb-true rm maskAddress q, u)
+  go false true d false p q r u = rw (eqb-true rm maskAddress q, u)
+  go false false true true p q r u = rw (eqb-true rm modeAddress r, u)
+  go false false true false p q r u = rw (eqb-true rm modeAddress r, u)
+  go false false false l p q r u =
+      let z : rm ≡ 0 → ⊥ = eqb-false rm 0 p in
+      let below : rm < firstSpecial = leb-false firstSpecial rm (rw (q, r) at legal) in
+      rw (p, q, r, le-leb 1 rm (omega arith), lt-ltb rm firstSpecial below) (last l u)
+    where
+      last : (l : Bool) → eqb rl 0 ≡ l
+          → record { pc = pc; raised = 0; settings = s; a = loadedOf rl n v; b = noWrite; reversed = false; store = record { used = true; address = rm; value = rn }; answer = Onward }
+          ≡ (onward pc s ▸ writeCell rm rn ▸ loadAt rl n v)
+      last true u = rw u
+      last false u = rw u
 
--- an LDST that only loads from memory, or only stores to it
-module _ (n rn loaded pc : ℕ) (s : Settings) where
-  pub idles : ldstOf n rn 0 0 loaded pc s ≡ stillOf pc s
-  unfolding ldstOf
-  idles = refl
-
-  pub loads : (rl : ℕ) → (rl ≡ 0 → ⊥) → rl < firstSpecial → ldstOf n rn 0 rl loaded pc s ≡ writesOf n loaded pc s
-  unfolding ldstOf
-  loads rl z h = rw (le-ltb modeAddress rl (omega arith), ne-eqb rl 0 z)
-
-  pub stores : (rm : ℕ) → (rm ≡ 0 → ⊥) → rm < firstSpecial → ldstOf n rn rm 0 loaded pc s ≡ storesBy rn rm pc s
-  unfolding ldstOf
-  stores rm z h =
-      rw (ne-eqb rm maskAddress (λ e. omega arith), ne-eqb rm modeAddress (λ e. omega arith), lt-leb firstSpecial rm h, le-leb 1 rm (omega arith), lt-ltb rm firstSpecial h)
+  pub by-parts : illegalLoad rl ≡ false
+      → record { pc = pc; raised = 0; settings = settingsOf rm rn s; a = loadedOf rl n v; b = noWrite; reversed = false; store = storedOf rm rn; answer = Onward }
+      ≡ ldstBy n rn rm rl v (onward pc s)
+  unfolding ldstBy
+  by-parts h = rw (h, legal) (go (eqb rm 0) (eqb rm maskAddress) (eqb rm modeAddress) (eqb rl 0) refl refl refl refl)
 
 -- an LDST whose pointers do not fault
 module _ (n rn m l pc : ℕ) (s : Settings) (cells : List ℕ) (not-l : faults (length cells) l ≡ false) (not-m : faults (length cells) m ≡ false) where
-  pub whole : Does (ldstOf n rn m l (loadOf cells s l) pc s) ≡ transferOf n rn m l pc s cells
-  unfolding transferOf
+  pub whole : does (ldstBy n rn m l (behind cells s l) (onward pc s)) ≡ transferBy n rn m l s cells (onward pc s)
+  unfolding transferBy
   whole = rw (not-l, not-m)
 
-  pub idle : m ≡ 0 → l ≡ 0 → Does (movesBy pc 0 (s .flags) s) ≡ transferOf n rn m l pc s cells
-  idle e f = rw (← whole, e, f, idles n rn (loadOf cells s 0) pc s)
+  pub idle : m ≡ 0 → l ≡ 0 → does (onward pc s) ≡ transferBy n rn m l s cells (onward pc s)
+  unfolding ldstBy
+  idle e f = rw (← whole, e, f)
 
-  pub load : m ≡ 0 → (l ≡ 0 → ⊥) → l < firstSpecial → Does (writesOf n (getD cells l 0) pc s) ≡ transferOf n rn m l pc s cells
-  unfolding loadOf
-  load e z h = rw (← whole, e, loads n rn (loadOf cells s l) pc s l z h, lt-ltb l firstSpecial h)
+  pub load : m ≡ 0 → (l ≡ 0 → ⊥) → l < firstSpecial → does (onward pc s ▸ writeA n (getD cells l 0)) ≡ transferBy n rn m l s cells (onward pc s)
+  unfolding ldstBy behind
+  load e z h = rw (← whole, e, le-ltb modeAddress l (omega arith), ne-eqb l 0 z, lt-ltb l firstSpecial h)
 
-  pub store : (m ≡ 0 → ⊥) → l ≡ 0 → m < firstSpecial → Does (storesBy rn m pc s) ≡ transferOf n rn m l pc s cells
-  store z e h = rw (← whole, e, stores n rn (loadOf cells s 0) pc s m z h)
-
--- an operation's outcome
-module _ (n m l rn pc : ℕ) (s : Settings) where
-  pub wrote : (a : Asked) (float : Bool) (w : Written) → Wrote w ≡ operatedBy a m l rn (s .flags) → Does (writesBy (w .value) (w .raised) (flagsOf (s .flags) (w .governed) (w .raised)) n pc s) ≡ remainingOf a float n m l rn pc s
-  unfolding operatedBy remainingOf
-  wrote (Given op) float w e = let q : w ≡ writtenOf op m l rn (s .flags) = cc in rw q
-  wrote (Turned op) float w e = let q : w ≡ writtenOf op l m rn (s .flags) = cc in rw q
-  wrote Other float w e = never (cc)
-
-  pub nothing : (a : Asked) (float : Bool) → Nothing ≡ operatedBy a m l rn (s .flags) → cond float Float (Does (illegalOf pc s)) ≡ remainingOf a float n m l rn pc s
-  unfolding operatedBy remainingOf
-  nothing (Given op) float e = never (cc)
-  nothing (Turned op) float e = never (cc)
-  nothing Other true e = refl
-  nothing Other false e = refl
+  pub store : (m ≡ 0 → ⊥) → l ≡ 0 → m < firstSpecial → does (onward pc s ▸ writeCell m rn) ≡ transferBy n rn m l s cells (onward pc s)
+  unfolding ldstBy
+  store z e h = rw (← whole, e, ne-eqb m maskAddress (λ e. omega arith), ne-eqb m modeAddress (λ e. omega arith), lt-leb firstSpecial m h, ne-eqb m 0 z)

@@ -1,4 +1,6 @@
+pub mod Action
 pub mod Operands
+pub mod Parts
 pub mod Effect
 pub mod Refusal
 pub mod Inner

@@ -1,20 +1,13 @@
--- What an instruction reads: document 01, 'The machine and its boundary' and 'One step'.
-use Prim.Native.Nat.{ℕ, _+_, _%_}
+-- What an instruction reads: document 01, 'One step' and 'Addresses'.
+use Prim.Native.Nat.{ℕ, _+_, _*_, _/_, _%_}
 use mathlib.Core.Bool.{cond}
 use mathlib.Core.List.{List}
-use lib.Dec.{eqb}
+use lib.Dec.{ltb, eqb}
 use lib.ListN.{getD}
-
--- flags and mask are below 512, and a journal entry packs them by that
-abbrev pub flagsBound : ℕ
-flagsBound = 512
-
--- the first special address; a PC there or above is ended
-abbrev pub firstSpecial : ℕ
-firstSpecial = 0xFFFF0000
-
-abbrev pub pcOf : List ℕ → ℕ
-pcOf regs = getD regs 255 0
+use Rattle.half.specs.Half.{seOf, exOf}
+use Rattle.machine.specs.declared.Settings.{Settings}
+use Rattle.machine.specs.State.{State, firstSpecial, pcOf}
+use Rattle.effect.specs.Action.{Extension, Se, Ex, Value, R, Imm, Extended, Lower, Upper}
 
 -- Fetch the cell at PC; PC becomes PC+1; then execute. Arithmetic is modulo 4,294,967,296.
 abbrev pub nextOf : List ℕ → ℕ
@@ -23,3 +16,37 @@ nextOf regs = (pcOf regs + 1) % 4294967296
 -- All operands are read before any write, and R255 then reads as PC+1.
 unfoldable pub operandOf : List ℕ → ℕ → ℕ
 operandOf regs i = cond (eqb i 255) (nextOf regs) (getD regs i 0)
+
+-- the value of register i
+abbrev pub reg : State → ℕ → ℕ
+reg s i = operandOf (s .regs) i
+
+-- se(x) or ex(x)
+abbrev pub extended : Extension → ℕ → ℕ
+extended Se x = seOf x
+extended Ex x = exOf x
+
+-- LDLI and LDUI replace the lower or upper 16 bits and keep the rest.
+abbrev pub valueOf : State → Value → ℕ
+valueOf s (R i) = reg s i
+valueOf s (Imm x) = x
+valueOf s (Extended e x) = extended e x
+valueOf s (Lower i x) = reg s i / 65536 * 65536 + x
+valueOf s (Upper i x) = x * 65536 + reg s i % 65536
+
+-- 1 to M-1 are memory for LDST. 0xFFFF0000 reads as the flags. 0xFFFF0001 is the trap mask. 0xFFFF0002 is the rounding mode.
+abbrev pub flagsAddress : ℕ
+flagsAddress = 0xFFFF0000
+
+abbrev pub maskAddress : ℕ
+maskAddress = 0xFFFF0001
+
+abbrev pub modeAddress : ℕ
+modeAddress = 0xFFFF0002
+
+-- the value behind a load pointer
+unfoldable pub behind : List ℕ → Settings → ℕ → ℕ
+behind cells s p =
+    cond (ltb p firstSpecial) (getD cells p 0)
+    (cond (eqb p flagsAddress) (s .flags)
+    (cond (eqb p maskAddress) (s .mask) (s .mode)))

@@ -1,12 +1,15 @@
 // The whole effects of LDST and INT, made from numbers alone: the operands' values, the next PC, the settings.
 ghost use mathlib.Core.Path.{_≡_};
-ghost use Rattle.effect.specs.Effect.{illegalOf, illegalStore, loadedOf, storedOf, settingsOf, ldstOf, intOf};
-use crate::Address;
+ghost use Rattle.effect.specs.declared.Answer.the-variants.{Interrupt};
+ghost use Rattle.effect.specs.Parts.{_▸_, onward, say, illegal as illegalOf};
+ghost use Rattle.effect.specs.Effect.{illegalStore};
+ghost use Rattle.effect.specs.Inner.{loadedOf, storedOf, settingsOf, ldstBy};
 use crate::Answer;
 use crate::Effect;
-use crate::Settings;
 use crate::Store;
 use crate::Write;
+use machine::Address;
+use machine::Settings;
 use word::Flag;
 
 // No register, and no cell.
@@ -24,7 +27,7 @@ const NO_STORE: Store = Store {
 
 // An illegal LDST: flag 128.
 fn illegal(pc: u32, s: Settings) -> Effect
-    ensures { λ r. ⌜ r ≡ illegalOf pc s ⌝ }
+    ensures { λ r. ⌜ r ≡ onward pc s ▸ illegalOf ⌝ }
 {
     Effect {
         pc,
@@ -111,7 +114,7 @@ fn illegal_store(p: u32, v: u32) -> bool
 
 // LDST: store old Rn at Rm, load from Rl; nothing of it is done if either is illegal.
 pub(crate) fn ldst(n: u8, rn: u32, rm: u32, rl: u32, behind: u32, pc: u32, s: Settings) -> Effect
-    ensures { λ r. ⌜ r ≡ ldstOf n rn rm rl behind pc s ⌝ }
+    ensures { λ r. ⌜ r ≡ ldstBy n rn rm rl behind (onward pc s) ⌝ }
 {
     if Address::MODE < rl {
         return illegal(pc, s);
@@ -133,7 +136,7 @@ pub(crate) fn ldst(n: u8, rn: u32, rm: u32, rl: u32, behind: u32, pc: u32, s: Se
 
 // INT: the answer carries Rn's value and imm.
 pub(crate) fn int(rn: u32, imm: u16, pc: u32, s: Settings) -> Effect
-    ensures { λ r. ⌜ r ≡ intOf rn imm pc s ⌝ }
+    ensures { λ r. ⌜ r ≡ onward pc s ▸ say (Interrupt rn imm) ⌝ }
 {
     Effect {
         pc,

@@ -1,19 +1,23 @@
 // The instruction at PC: refused by stop 6 or 5, or its effect. Nothing is written here.
 ghost use mathlib.Core.Path.{_≡_};
-ghost use Prim.Native.Nat.{_<_};
+ghost use Prim.Native.Nat.{ℕ, _+_, _<_};
 ghost use mathlib.Core.Bool.{cond};
+ghost use mathlib.Core.List.{List};
+ghost use lib.Dec.{eqb};
 ghost use lib.ListN.{length};
 ghost use Rattle.cell.specs.Cell.{decodeOf};
 ghost use Rattle.half.specs.Half.{seOf};
-ghost use Rattle.word.specs.Word.{askedOf};
-ghost use Rattle.effect.specs.Operands.{firstSpecial, nextOf, operandOf};
-ghost use Rattle.effect.specs.Effect.{loadOf, writesOf};
-ghost use Rattle.effect.specs.Refusal.{floats, faults};
-ghost use Rattle.effect.specs.Inner.{takesImm, atLength, transferOf, remainingOf, branchOf, consideredOf};
-use crate::Address;
+ghost use Rattle.word.specs.Word.{wrap, askedOf, operatedBy};
+ghost use Rattle.machine.specs.State.{firstSpecial, stateWith};
+ghost use Rattle.effect.specs.Action.{floats, actionOf};
+ghost use Rattle.effect.specs.Operands.{nextOf, operandOf, behind};
+ghost use Rattle.effect.specs.Parts.{_▸_, onward, writeA};
+ghost use Rattle.effect.specs.Refusal.{faults};
+ghost use Rattle.effect.specs.Inner.{does, toldOf, meant, takesImm, remaining, transferBy};
 use crate::Effect;
-use crate::Settings;
 use crate::effects;
+use machine::Address;
+use machine::Settings;
 use word::Flag;
 use word::Operated;
 
@@ -88,7 +92,7 @@ fn is_fault(size: usize, p: u32) -> bool
 // The value behind a load pointer.
 fn load(cells: &[u32], s: Settings, p: u32) -> u32
     requires { ⌜ (p < firstSpecial → p < length (now cells)) ⌝ }
-    ensures { λ r. ⌜ r ≡ loadOf (now (cells .entry)) s p ⌝ }
+    ensures { λ r. ⌜ r ≡ behind (now (cells .entry)) s p ⌝ }
 {
     if p < Address::FLAGS {
         return cells[p as usize];
@@ -134,7 +138,7 @@ fn second(opcode: u8, imm: u16, regs: &[u32; 256], l: u8, next: u32) -> u32
 
 // Register n gets a value, and no flag is written.
 fn writes(n: u8, value: u32, pc: u32, s: Settings) -> Considered
-    ensures { λ r. ⌜ atLength s r ≡ Considered.Does (writesOf n value pc s) ⌝ }
+    ensures { λ r. ⌜ meant s r ≡ does (onward pc s ▸ writeA n value) ⌝ }
 {
     Considered::Writes(Writing {
         value,
@@ -147,7 +151,7 @@ fn writes(n: u8, value: u32, pc: u32, s: Settings) -> Considered
 
 // LDST, whose load pointer is l and whose store pointer is m.
 fn transfer(n: u8, rn: u32, m: u32, l: u32, cells: &[u32], pc: u32, s: Settings) -> Considered
-    ensures { λ r. ⌜ atLength s r ≡ transferOf n rn m l pc s (now (cells .entry)) ⌝ }
+    ensures { λ r. ⌜ meant s r ≡ transferBy n rn m l s (now (cells .entry)) (onward pc s) ⌝ }
 {
     if is_fault(cells.len(), l) {
         return Considered::Fault;
@@ -182,7 +186,7 @@ fn transfer(n: u8, rn: u32, m: u32, l: u32, cells: &[u32], pc: u32, s: Settings)
 
 // An opcode from 16 to 53, a float opcode, or a reserved one.
 fn operated(opcode: u8, n: u8, m: u32, l: u32, rn: u32, pc: u32, s: Settings) -> Considered
-    ensures { λ r. ⌜ atLength s r ≡ remainingOf (askedOf opcode) (floats opcode) n m l rn pc s ⌝ }
+    ensures { λ r. ⌜ meant s r ≡ remaining (operatedBy (askedOf opcode) m l rn (s .flags)) (floats opcode) n (onward pc s) ⌝ }
 {
     let done = word::operate(opcode, m, l, rn, s.flags);
     match done {
@@ -208,7 +212,7 @@ fn operated(opcode: u8, n: u8, m: u32, l: u32, rn: u32, pc: u32, s: Settings) ->
 
 // BZ: if Rn is 0, PC gains se(imm).
 fn branch(rn: u32, imm: u16, pc: u32) -> u32
-    ensures { λ r. ⌜ r ≡ branchOf rn imm pc ⌝ }
+    ensures { λ r. ⌜ r ≡ cond (eqb rn 0) (wrap (pc + seOf imm)) pc ⌝ }
 {
     if rn == 0 {
         std::num::wrapping_add_u32(pc, half::se(imm))
@@ -219,7 +223,8 @@ fn branch(rn: u32, imm: u16, pc: u32) -> u32
 
 // What becomes of the instruction that a cell is.
 pub fn consider(cell: u32, regs: &[u32; 256], cells: &[u32], s: Settings) -> Considered
-    ensures { λ r. ⌜ atLength s r ≡ consideredOf (decodeOf cell) (now (regs .entry)) s (now (cells .entry)) ⌝ }
+    ensures { λ r. ⌜ ((depth : ℕ) (journal : List ℕ) → meant s r
+        ≡ toldOf (actionOf (decodeOf cell)) (stateWith (now (regs .entry)) s depth (now (cells .entry)) journal)) ⌝ }
 {
     let pc = std::num::wrapping_add_u32(regs[255], 1);
     let opcode = (cell / 16777216) as u8;

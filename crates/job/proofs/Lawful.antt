@@ -10,11 +10,9 @@ use lib.Dec.{leb, ltb, eqb}
 use lib.ListN.{length, set, drop, replicate, length-set, length-replicate}
 use lib.Seq.{sets, length-sets}
 use borrow.Author.Tests.{leb-false, eqb-false, not-true}
-use Rattle.effect.specs.declared.Settings.{Settings}
-use Rattle.effect.specs.Operands.{flagsBound}
-use Rattle.effect.specs.Inner.{InRange}
-use Rattle.effect.proofs.Safe.{picked, or-left, or-right}
-use Rattle.machine.specs.State.{mostCells, stateOf, badCells, badSettings}
+use Rattle.machine.specs.declared.Settings.{Settings}
+use Rattle.machine.specs.State.{flagsBound, InRange, mostCells, stateOf, badCells, badSettings}
+use Rattle.machine.proofs.Tests.{picked, or-left, or-right}
 use Rattle.machine.proofs.Lawful.{Words, set-words, Lawful}
 use Rattle.job.specs.declared.records.Kind.{Kind}
 use Rattle.job.specs.declared.records.Kind.the-variants.{Run, Register, Setup, End, Other}

@@ -7,7 +7,7 @@ use mathlib.Core.List.{List, [], _∷_}
 use lib.Dec.{leb, ltb, eqb}
 use lib.ListN.{length, set, take, drop, replicate}
 use lib.Seq.{sets}
-use Rattle.effect.specs.declared.Settings.{Settings}
+use Rattle.machine.specs.declared.Settings.{Settings}
 use Rattle.machine.specs.declared.Machine.{Machine}
 use Rattle.machine.specs.State.{freshSettings, freshMachine, badCells, badSettings}
 use Rattle.job.specs.declared.Answer.{Answer}

@@ -21,7 +21,7 @@ use crate::records::passed;
 use crate::records::settings_in;
 use crate::records::settled;
 use crate::records::within;
-use effect::Settings;
+use machine::Settings;
 use refusal::Refusal;
 
 // What becomes of a record: refused, the last, or on to the next.

@@ -5,7 +5,7 @@ ghost use Prim.Native.Nat.{_≤_, _+_, _<_};
 ghost use lib.ListN.{length};
 ghost use Rattle.job.specs.Job.{kindBy, knownOf, fitsOf, endsOf, rankOf, pastOf, inOrder, risesOf, baseOf, countOf, withinOf, settledIn, settingsIn};
 use crate::little::number;
-use effect::Settings;
+use machine::Settings;
 use machine::in_range;
 
 // A record's kind: 1 to 4, or any other.

@@ -7,7 +7,7 @@ use mathlib.Core.List.{List}
 use lib.Dec.{leb, ltb}
 use lib.ListN.{getD}
 use borrow.Author.Tests.{leb-false}
-use Rattle.effect.proofs.Safe.{or-left, or-right}
+use Rattle.machine.proofs.Tests.{or-left, or-right}
 use Rattle.journal.specs.Journal.{damagedOf}
 
 third : (a b c d e : Bool) → (a || b || c || d || e) ≡ false → c ≡ false

@@ -14,10 +14,8 @@ use lib.Dec.{leb, ltb, eqb}
 use borrow.Author.Tests.{lt-leb, le-ltb, le-leb, lt-ltb}
 use Rattle.effect.specs.declared.Write.{Write}
 use Rattle.effect.specs.declared.Effect.{Effect}
-use Rattle.effect.specs.declared.Settings.{Settings}
-use Rattle.effect.specs.Operands.{flagsBound, pcOf}
-use Rattle.effect.specs.Inner.{InRange}
-use Rattle.machine.specs.State.{State}
+use Rattle.machine.specs.declared.Settings.{Settings}
+use Rattle.machine.specs.State.{flagsBound, pcOf, InRange, State}
 use Rattle.journal.specs.Journal.{ifUsed, writesIn, regsAfter, cellsAfter, entryOf, applyOf, lastOf, damagedOf, packedOf, regsBefore, cellsBefore, settingsBefore, undoOf}
 use Rattle.journal.proofs.Lists.{length-writeIf, miss, mended, writeIf-ifUsed, ifUsed-lt, writeIf-back, take-sets, take-to-sets, read-sets, drop-sets, read-known, take-known, getD-outside}
 use Rattle.journal.proofs.Words.{word}

@@ -4,7 +4,7 @@ use Prim.Native.Nat.{ℕ}
 use mathlib.Core.Path.{_≡_, refl, sym, ap, _∙_}
 use mathlib.Core.Option.{Option, none, some}
 use mathlib.Core.List.{List}
-use Rattle.effect.specs.declared.Settings.{Settings}
+use Rattle.machine.specs.declared.Settings.{Settings}
 use Rattle.journal.specs.declared.Returned.{Returned}
 use Rattle.journal.specs.declared.Returned.the-variants.{Back, Damaged}
 use Rattle.journal.specs.Journal.{Gone, returnedOf}

@@ -7,13 +7,12 @@ use lib.Bits.{bitOr}
 use lib.Dec.{leb, ltb, eqb}
 use lib.ListN.{length, getD, set, take, drop}
 use lib.Seq.{sets}
-use Rattle.effect.specs.declared.Settings.{Settings}
+use Rattle.machine.specs.declared.Settings.{Settings}
 use Rattle.effect.specs.declared.Write.{Write}
 use Rattle.effect.specs.declared.Effect.{Effect}
-use Rattle.machine.specs.State.{State, stateWith, writeIf}
+use Rattle.machine.specs.State.{State, stateWith, writeIf, flagsBound, firstSpecial, pcOf}
 use Rattle.journal.specs.declared.Returned.{Returned}
 use Rattle.journal.specs.declared.Returned.the-variants.{Back, Damaged}
-use Rattle.effect.specs.Operands.{flagsBound, firstSpecial, pcOf}
 
 -- Unused parts are 0.
 abbrev pub ifUsed : Bool → ℕ → ℕ

@@ -3,10 +3,10 @@ ghost use mathlib.Core.Path.{_≡_};
 ghost use mathlib.Core.List.{List};
 ghost use Prim.Native.Nat.{ℕ, _<_};
 ghost use lib.ListN.{getD};
-ghost use Rattle.effect.specs.declared.Settings.{Settings};
+ghost use Rattle.machine.specs.declared.Settings.{Settings};
 ghost use Rattle.machine.specs.State.{stateWith};
 ghost use Rattle.journal.specs.Journal.{packedOf, usesA, usesB, usesStore, damagedOf, regsBefore, takenBack, returnedOf};
-use effect::Settings;
+use machine::Settings;
 use machine::keep;
 use machine::put;
 

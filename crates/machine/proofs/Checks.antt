@@ -7,7 +7,7 @@ use mathlib.Core.List.{List}
 use lib.Dec.{ltb, eqb}
 use lib.ListN.{length}
 use borrow.Author.Tests.{ltb-false}
-use Rattle.effect.proofs.Safe.{or-right}
+use Rattle.machine.proofs.Tests.{or-right}
 use Rattle.machine.specs.State.{mostCells, badCells, entriesIn, capacityOf}
 
 -- a test that was made the other way round

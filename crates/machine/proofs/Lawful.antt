@@ -8,9 +8,8 @@ use lib.Dec.{ltb, eqb}
 use lib.ListN.{length, getD, set}
 use lib.Seq.{getD-set-same, getD-set-other, set-out}
 use borrow.Author.Tests.{ltb-true, ltb-false, eqb-true, eqb-false}
-use Rattle.effect.specs.declared.Settings.{Settings}
-use Rattle.effect.specs.Inner.{InRange}
-use Rattle.machine.specs.State.{State, capacityOf}
+use Rattle.machine.specs.declared.Settings.{Settings}
+use Rattle.machine.specs.State.{State, InRange, capacityOf}
 
 -- A list of 32-bit words stays one where a word is written.
 abbrev pub Words : List ℕ → Type 0

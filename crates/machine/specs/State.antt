@@ -1,11 +1,10 @@
 -- What can be seen of a machine with its cells and journal: document 01, 'The machine and its boundary'.
-use Prim.Native.Nat.{ℕ, _/_, min}
+use Prim.Native.Nat.{ℕ, _/_, _<_, min}
 use mathlib.Core.Bool.{Bool, true, false, _||_}
 use mathlib.Core.List.{List}
 use lib.Dec.{leb, ltb, eqb}
-use lib.ListN.{replicate, length, set}
-use Rattle.effect.specs.declared.Settings.{Settings}
-use Rattle.effect.specs.Operands.{flagsBound}
+use lib.ListN.{replicate, length, getD, set}
+use Rattle.machine.specs.declared.Settings.{Settings}
 use Rattle.machine.specs.declared.Machine.{Machine}
 
 -- Registers 0 to 255 hold 32 bits; register 255 is PC. The host lends M cells of 32 bits and a journal of 32-bit words.
@@ -16,6 +15,18 @@ pub record State : Type 0 where
   pub depth : ℕ
   pub cells : List ℕ
   pub journal : List ℕ
+
+-- register 255 is PC
+abbrev pub pcOf : List ℕ → ℕ
+pcOf regs = getD regs 255 0
+
+-- flags and mask are below 512, and a journal entry packs them by that
+abbrev pub flagsBound : ℕ
+flagsBound = 512
+
+-- the first special address; a PC there or above is ended
+abbrev pub firstSpecial : ℕ
+firstSpecial = 0xFFFF0000
 
 -- a machine with what the host lends it
 abbrev pub stateOf : Machine → List ℕ → List ℕ → State
@@ -49,6 +60,12 @@ badCells m = eqb m 0 || ltb mostCells m
 
 abbrev pub badSettings : Settings → Bool
 badSettings s = leb flagsBound (s .flags) || leb flagsBound (s .mask) || leb 4 (s .mode)
+
+-- settings that a call takes
+pub record InRange (s : Settings) : Type 0 where
+  pub flags : s .flags < flagsBound
+  pub mask : s .mask < flagsBound
+  pub mode : s .mode < 4
 
 -- a write that is made if it is used
 abbrev pub writeIf : Bool → List ℕ → ℕ → ℕ → List ℕ

@@ -3,7 +3,31 @@ ghost use mathlib.Core.Path.{_≡_};
 ghost use mathlib.Core.Bool.{not};
 ghost use Rattle.machine.specs.State.{freshMachine, badCells, badSettings, entriesIn, writeIf};
 ghost use Rattle.machine.specs.Stops.{saidOf};
-use effect::Settings;
+
+// The addresses from 0xFFFF0000 on that LDST knows. A PC there or above has ended.
+pub struct Address;
+
+impl Address {
+    pub const FLAGS: u32 = 0xFFFF0000;
+
+    pub const MASK: u32 = 0xFFFF0001;
+
+    pub const MODE: u32 = 0xFFFF0002;
+}
+
+// The flags, the trap mask and the rounding mode.
+pub struct Settings {
+    pub flags: u32,
+    pub mask: u32,
+    pub mode: u32,
+}
+
+impl Settings {
+    // Flags and mask are below the first, the mode below the second.
+    pub const FLAGS_BOUND: u32 = 512;
+
+    pub const MODE_BOUND: u32 = 4;
+}
 
 pub struct Machine {
     pub regs: [u32; 256],

@@ -5,8 +5,10 @@ use Rattle.half.specs.Half.{seOf, exOf}
 use Rattle.word.specs.Word.{writtenOf, opOf, askedOf}
 use Rattle.cell.specs.Cell.{legal, immediate, formOf, decodeOf}
 use Rattle.text.specs.Text.{bytes, digits, decimal}
-use Rattle.effect.specs.Operands.{operandOf}
-use Rattle.effect.specs.Effect.{flagsOf, operationOf, loadOf, ldstOf, bzOf, registersOf, immediateOf, effectOf, behindOf}
+use Rattle.effect.specs.Action.{actionOf}
+use Rattle.effect.specs.Operands.{operandOf, behind}
+use Rattle.effect.specs.Parts.{flagsOf}
+use Rattle.effect.specs.Effect.{effectOf}
 use Rattle.effect.specs.Refusal.{refusedBy}
 use Rattle.machine.specs.State.{freshMachine, entriesIn, capacityOf}
 use Rattle.journal.specs.Journal.{regsAfter, cellsAfter, settingsAfter, entryOf}
@@ -21,5 +23,5 @@ unfolding digits decimal recordOf refusalFrom refusalIn outcomeOf textOf
 empty-input = refl
 
 pub printed-job : textOf printedJob ≡ bytes "exit 1 steps 3 pc 4294901763 flags 256\nR1 5\n"
-unfolding seOf exOf writtenOf opOf askedOf legal immediate formOf decodeOf digits decimal operandOf flagsOf operationOf loadOf ldstOf bzOf registersOf immediateOf effectOf behindOf refusedBy capacityOf entriesIn freshMachine regsAfter cellsAfter settingsAfter entryOf refusalOf effectIn courseOf stepOf runFrom checkOf littleOf numberAt kindBy wordsOf inOrder recordOf refusalFrom contentFrom refusalIn registersText ranText outcomeOf textOf printedJob
+unfolding seOf exOf writtenOf opOf askedOf legal immediate formOf decodeOf digits decimal actionOf operandOf behind flagsOf effectOf refusedBy capacityOf entriesIn freshMachine regsAfter cellsAfter settingsAfter entryOf refusalOf effectIn courseOf stepOf runFrom checkOf littleOf numberAt kindBy wordsOf inOrder recordOf refusalFrom contentFrom refusalIn registersText ranText outcomeOf textOf printedJob
 printed-job = refl

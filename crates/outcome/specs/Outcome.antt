@@ -5,8 +5,7 @@ use mathlib.Core.List.{List, [], _∷_, _++_}
 use Prim.Native.Nat.{ℕ, _+_, _≤_}
 use lib.Dec.{ltb, eqb}
 use lib.ListN.{length, take, replicate}
-use Rattle.effect.specs.Operands.{pcOf}
-use Rattle.machine.specs.State.{stateOf}
+use Rattle.machine.specs.State.{pcOf, stateOf}
 use Rattle.runner.specs.Calls.{Out, runOf}
 use Rattle.job.specs.Job.{Load, loadOf}
 use Rattle.text.specs.Text.{bytes, named, Added}

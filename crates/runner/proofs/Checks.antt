@@ -9,15 +9,13 @@ use native.Mathlib.Omega.{arith}
 use lib.Dec.{leb, ltb, eqb}
 use lib.ListN.{length}
 use borrow.Author.Tests.{leb-false, ltb-false, eqb-false, lt-ltb, lt-leb, le-ltb, ne-eqb}
-use Rattle.effect.specs.declared.Settings.{Settings}
-use Rattle.machine.specs.State.{State, mostCells, capacityOf, badCells, badSettings, entriesIn}
-use Rattle.effect.specs.Operands.{flagsBound}
+use Rattle.machine.specs.declared.Settings.{Settings}
+use Rattle.machine.specs.State.{State, mostCells, capacityOf, badCells, badSettings, entriesIn, flagsBound, InRange}
 use Rattle.machine.specs.Stops.{Said, plainly}
 use Rattle.runner.specs.Calls.{Out, stopAt, checkOf, called, callOf}
 use Rattle.runner.specs.declared.Checked.{Checked}
-use Rattle.effect.specs.Inner.{InRange}
 use Rattle.runner.specs.Inner.{saidBy, checkedOf}
-use Rattle.effect.proofs.Safe.{or-left, or-right}
+use Rattle.machine.proofs.Tests.{or-left, or-right}
 use Rattle.turn.proofs.Keeps.{past}
 
 none-said : (o : Option ℕ) → saidBy o ≡ none → o ≡ none

@@ -5,7 +5,7 @@ use mathlib.Core.Option.{Option, none, some}
 use mathlib.Core.List.{List}
 use lib.Dec.{ltb, eqb}
 use lib.ListN.{length}
-use Rattle.effect.specs.declared.Settings.{Settings}
+use Rattle.machine.specs.declared.Settings.{Settings}
 use Rattle.runner.specs.declared.Ran.{Ran}
 use Rattle.machine.specs.State.{State, stateOf, capacityOf, badCells, badSettings}
 use Rattle.journal.specs.Journal.{lastOf, damagedOf, undoOf}

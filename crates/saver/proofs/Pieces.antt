@@ -11,8 +11,8 @@ use lib.Dec.{eqb}
 use lib.ListN.{length, getD, set, take, drop, length-append, length-drop, drop-of-length-le}
 use lib.Seq.{sets, length-sets, drop-cons, drop-drop}
 use borrow.Author.Tests.{eq-eqb, ne-eqb}
-use Rattle.effect.specs.declared.Settings.{Settings}
-use Rattle.effect.proofs.Safe.{picked}
+use Rattle.machine.specs.declared.Settings.{Settings}
+use Rattle.machine.proofs.Tests.{picked}
 use Rattle.text.proofs.Adds.{sets-append}
 use Rattle.machine.specs.State.{mostCells}
 use Rattle.job.specs.Job.{bytesOf}

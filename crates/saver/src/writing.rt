@@ -9,8 +9,8 @@ ghost use Rattle.job.specs.Job.{bytesOf};
 ghost use Rattle.saver.specs.Saving.{wordBytes, runOf, runsFrom, valueRecord, valuesFrom, freshOf, setupOf, savedOf};
 ghost use Rattle.saver.specs.Inner.{Stored, Fits, spanOf};
 use crate::little::put;
-use effect::Settings;
 use machine::Machine;
+use machine::Settings;
 
 // A record's head: the payload's length, and the kind.
 fn put_head(room: &mut [u8], at: usize, size: u32, kind: u32) -> usize

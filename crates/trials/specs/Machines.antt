@@ -2,7 +2,7 @@
 use mathlib.Core.List.{List, [], _∷_, _++_}
 use Prim.Native.Nat.{ℕ, zero, suc, _+_, _*_, _%_}
 use lib.ListN.{getD, set, replicate}
-use Rattle.effect.specs.declared.Settings.{Settings}
+use Rattle.machine.specs.declared.Settings.{Settings}
 use Rattle.machine.specs.declared.Machine.{Machine}
 use Rattle.text.specs.Text.{named}
 use Rattle.trials.specs.declared.machines.Layout.{Layout}

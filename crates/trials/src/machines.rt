@@ -9,8 +9,8 @@ use crate::payload::half_at;
 use crate::payload::word_at;
 use crate::wholes::digest;
 use crate::wholes::fill;
-use effect::Settings;
 use machine::Machine;
+use machine::Settings;
 use text::put_number;
 
 // Puts settings and depth.

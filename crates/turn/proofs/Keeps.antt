@@ -12,18 +12,16 @@ use lib.Dec.{leb}
 use lib.ListN.{length}
 use lib.Seq.{sets, length-sets}
 use borrow.Author.Tests.{leb-false}
-use Rattle.effect.specs.declared.Settings.{Settings}
-use Rattle.machine.specs.State.{State, capacityOf, writeIf, entriesIn}
-use Rattle.effect.specs.Operands.{firstSpecial, pcOf}
+use Rattle.machine.specs.declared.Settings.{Settings}
+use Rattle.machine.specs.State.{State, capacityOf, writeIf, entriesIn, firstSpecial, pcOf, InRange}
 use Rattle.journal.specs.Journal.{writesIn, settledOf, settingsAfter, cellsAfter, regsAfter, entryOf, endedOf, applyOf}
-use Rattle.turn.specs.Step.{instructionOf, refusalOf, effectIn, moved, stepOf}
+use Rattle.turn.specs.Step.{actionIn, refusalOf, effectIn, moved, stepOf}
 use Rattle.effect.specs.Refusal.{refusedBy}
-use Rattle.effect.specs.Inner.{InRange}
 use Rattle.machine.proofs.Lawful.{Ready, Lawful, Words, set-words}
 use Rattle.cell.proofs.Fields.{decoded-in-range}
 use Rattle.effect.specs.declared.Write.{Write}
 use Rattle.effect.proofs.Safe.{Safe, safe}
-use Rattle.effect.proofs.Ranges.{Ranged, ranged, behind-below}
+use Rattle.effect.proofs.Ranges.{Ranged, ranged}
 use Rattle.journal.proofs.Entry.{Formed, length-regs, lengths}
 
 -- no test of a row stopped
@@ -39,7 +37,7 @@ pub record Clear (s : State) : Type 0 where
   pub on : pcOf (s .regs) < firstSpecial
   pub within : pcOf (s .regs) < length (s .cells)
   pub space : s .depth < capacityOf (s .journal)
-  pub allowed : refusedBy (instructionOf s) (s .regs) (length (s .cells)) ≡ none
+  pub allowed : refusedBy (actionIn s) s ≡ none
 
 pub clear : (s : State) → refusalOf s ≡ none → Clear s
 unfolding refusalOf
@@ -57,7 +55,7 @@ clear s h =
 -- the effect of a step that is not refused is safe to carry out
 pub safe-in : (s : State) → Clear s → Safe (length (s .cells)) (s .settings) (effectIn s)
 unfolding effectIn
-safe-in s c = safe (length (s .cells)) (s .settings) (instructionOf s) (s .regs) _ (c .allowed)
+safe-in s c = safe s (actionIn s) (c .allowed)
 
 settled-in : (t : Bool) (s : Settings) → InRange s → InRange (settledOf t s)
 settled-in true s r = record { flags = or-lt 9 (s .flags) 256 (r .flags) (omega arith); mask = r .mask; mode = r .mode }
@@ -89,8 +87,7 @@ module _ (s : State) (l : Lawful s) where
   ranged-in : Ranged (effectIn s)
   unfolding effectIn
   ranged-in =
-      ranged (s .regs) (l .words) (instructionOf s) (decoded-in-range _ (l .cells (pcOf (s .regs)))) (s .settings) _
-      (behind-below (s .regs) (l .words) (s .settings) (l .ready .settled) (s .cells) (l .cells) (instructionOf s))
+      ranged s (l .words) (l .cells) (l .ready .settled) _ (decoded-in-range _ (l .cells (pcOf (s .regs))))
 
   -- the effect of a step that is done is one that going back undoes
   pub formed-in : Clear s → Formed (effectIn s) s

@@ -4,10 +4,9 @@ use mathlib.Core.Path.{_≡_}
 use mathlib.Core.Bool.{true}
 use mathlib.Core.List.{List, [], _∷_}
 use lib.ListN.{length, getD}
-use Rattle.effect.specs.declared.Settings.{Settings}
+use Rattle.machine.specs.declared.Settings.{Settings}
 use Rattle.effect.specs.declared.Effect.{Effect}
-use Rattle.effect.specs.Operands.{pcOf}
-use Rattle.machine.specs.State.{State}
+use Rattle.machine.specs.State.{pcOf, State}
 use Rattle.journal.specs.Journal.{packedOf, applyOf}
 use Rattle.turn.specs.Step.{courseOf, Moved}
 

@@ -6,24 +6,23 @@ use mathlib.Core.List.{List}
 use lib.Bits.{bitAnd}
 use lib.Dec.{leb, eqb}
 use lib.ListN.{getD, length}
-use Rattle.cell.specs.declared.Instruction.{Instruction}
 use Rattle.cell.specs.Cell.{decodeOf}
+use Rattle.effect.specs.Action.{Action, actionOf}
 use Rattle.effect.specs.Refusal.{refusedBy}
 use Rattle.effect.specs.declared.Effect.{Effect}
 use Rattle.effect.specs.declared.Answer.{Answer}
 use Rattle.effect.specs.declared.Answer.the-variants.{Onward, Interrupt}
-use Rattle.machine.specs.State.{State, stateWith, capacityOf}
+use Rattle.machine.specs.State.{State, stateWith, capacityOf, pcOf}
 use Rattle.turn.specs.declared.Verdict.{Verdict}
 use Rattle.turn.specs.declared.Verdict.the-variants.{Going, Stopped, Refused}
 use Rattle.turn.specs.declared.Advanced.{Advanced}
-use Rattle.effect.specs.Operands.{pcOf}
-use Rattle.effect.specs.Effect.{effectOf, behindOf}
+use Rattle.effect.specs.Effect.{effectOf}
 use Rattle.journal.specs.Journal.{endedOf, regsAfter, applyOf}
 use Rattle.machine.specs.Stops.{saidOf, Said, plainly}
 
--- The instruction that the cell at PC is.
-abbrev pub instructionOf : State → Instruction
-instructionOf s = decodeOf (getD (s .cells) (pcOf (s .regs)) 0)
+-- What the instruction that the cell at PC is asks for.
+abbrev pub actionIn : State → Action
+actionIn s = actionOf (decodeOf (getD (s .cells) (pcOf (s .regs)) 0))
 
 -- Before each step: 1, 4, 7, 6, 5. None of them, or the first.
 unfoldable pub refusalOf : State → Option ℕ
@@ -31,11 +30,11 @@ refusalOf s =
     cond (endedOf (s .regs)) (some 1)
     (cond (leb (length (s .cells)) (pcOf (s .regs))) (some 4)
     (cond (leb (capacityOf (s .journal)) (s .depth)) (some 7)
-    (refusedBy (instructionOf s) (s .regs) (length (s .cells)))))
+    (refusedBy (actionIn s) s)))
 
 -- what the instruction at PC does
 unfoldable pub effectIn : State → Effect
-effectIn s = effectOf (instructionOf s) (s .regs) (s .settings) (behindOf (instructionOf s) (s .regs) (s .settings) (s .cells))
+effectIn s = effectOf (actionIn s) s
 
 -- What became of a step: done and going on, done and stopped, or refused with nothing done.
 pub data Course : Type 0 where

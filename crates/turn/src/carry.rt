@@ -6,9 +6,8 @@ ghost use Prim.Native.Nat.{ℕ, _+_, _*_, _<_};
 ghost use lib.Bits.{bitAnd};
 ghost use lib.Dec.{leb, eqb};
 ghost use lib.ListN.{length};
-ghost use Rattle.effect.specs.Operands.{firstSpecial};
-ghost use Rattle.effect.specs.Inner.{movesBy, writesBy, storesBy, pairBy};
-ghost use Rattle.machine.specs.State.{capacityOf, stateWith};
+ghost use Rattle.machine.specs.State.{firstSpecial, capacityOf, stateWith};
+ghost use Rattle.effect.specs.Inner.{movingOf, writingOf, storingOf, splittingOf, swappingOf};
 ghost use Rattle.journal.specs.Journal.{settledOf};
 ghost use Rattle.machine.specs.Stops.{plainly};
 ghost use Rattle.turn.specs.Step.{going, stopped, verdictOf, advancedTo};
@@ -19,14 +18,14 @@ use crate::entry::carry_out;
 use crate::entry::enter;
 use crate::entry::settle;
 use crate::verdict_of;
-use effect::Address;
 use effect::Effect;
-use effect::Settings;
 use effect::execute::Moving;
 use effect::execute::Pairing;
 use effect::execute::Storing;
 use effect::execute::Writing;
 use journal::packed;
+use machine::Address;
+use machine::Settings;
 use machine::Stop;
 
 // After a step that left PC at pc, and answers to go on: 1, 2, or none.
@@ -69,7 +68,7 @@ pub(crate) fn moves(
 ) -> Advanced
     requires { ⌜ depth < capacityOf (now journal) ⌝ }
     ensures { λ r. ⌜ ((cells : List ℕ) → advancedTo r (now (regs .exit)) cells (now (journal .exit))
-        ≡ doneOf (movesBy (m .pc) (m .raised) (m .flags) s) (stateWith (now (regs .entry)) s depth cells (now (journal .entry)))) ⌝ }
+        ≡ doneOf (movingOf m s) (stateWith (now (regs .entry)) s depth cells (now (journal .entry)))) ⌝ }
 {
     enter(journal, depth, [regs[255], packed(s), 0, 0, 0, 0, 0, 0]);
     regs[255] = m.pc;
@@ -92,7 +91,7 @@ pub(crate) fn writes(
 ) -> Advanced
     requires { ⌜ depth < capacityOf (now journal) ⌝ }
     ensures { λ r. ⌜ ((cells : List ℕ) → advancedTo r (now (regs .exit)) cells (now (journal .exit))
-        ≡ doneOf (writesBy (w .value) (w .raised) (w .flags) (w .n) (w .pc) s) (stateWith (now (regs .entry)) s depth cells (now (journal .entry)))) ⌝ }
+        ≡ doneOf (writingOf w s) (stateWith (now (regs .entry)) s depth cells (now (journal .entry)))) ⌝ }
 {
     let i = w.n as usize;
     enter(
@@ -123,7 +122,7 @@ pub(crate) fn stores(
     requires { ⌜ depth < capacityOf (now journal) ⌝ }
     requires { ⌜ w .address < length (now cells) ⌝ }
     ensures { λ r. ⌜ advancedTo r (now (regs .exit)) (now (cells .exit)) (now (journal .exit))
-        ≡ doneOf (storesBy (w .value) (w .address) (w .pc) s) (stateWith (now (regs .entry)) s depth (now (cells .entry)) (now (journal .entry))) ⌝ }
+        ≡ doneOf (storingOf w s) (stateWith (now (regs .entry)) s depth (now (cells .entry)) (now (journal .entry))) ⌝ }
 {
     let address = w.address;
     let i = address as usize;
@@ -166,7 +165,7 @@ pub(crate) fn splits(
 ) -> Advanced
     requires { ⌜ depth < capacityOf (now journal) ⌝ }
     ensures { λ r. ⌜ ((cells : List ℕ) → advancedTo r (now (regs .exit)) cells (now (journal .exit))
-        ≡ doneOf (pairBy false (w .first) (w .second) (w .pc) (w .a) (w .b) s) (stateWith (now (regs .entry)) s depth cells (now (journal .entry)))) ⌝ }
+        ≡ doneOf (splittingOf w s) (stateWith (now (regs .entry)) s depth cells (now (journal .entry)))) ⌝ }
 {
     enter(journal, depth, of_pair(regs, s, w.a, w.b));
     let i = w.a as usize;
@@ -188,7 +187,7 @@ pub(crate) fn swaps(
 ) -> Advanced
     requires { ⌜ depth < capacityOf (now journal) ⌝ }
     ensures { λ r. ⌜ ((cells : List ℕ) → advancedTo r (now (regs .exit)) cells (now (journal .exit))
-        ≡ doneOf (pairBy true (w .first) (w .second) (w .pc) (w .a) (w .b) s) (stateWith (now (regs .entry)) s depth cells (now (journal .entry)))) ⌝ }
+        ≡ doneOf (swappingOf w s) (stateWith (now (regs .entry)) s depth cells (now (journal .entry)))) ⌝ }
 {
     enter(journal, depth, of_pair(regs, s, w.a, w.b));
     let i = w.a as usize;

@@ -2,8 +2,7 @@
 ghost use mathlib.Core.Path.{_≡_};
 ghost use mathlib.Core.Bool.{cond};
 ghost use lib.Dec.{leb};
-ghost use Rattle.effect.specs.Operands.{firstSpecial};
-ghost use Rattle.machine.specs.State.{stateWith};
+ghost use Rattle.machine.specs.State.{firstSpecial, stateWith};
 ghost use Rattle.machine.specs.Stops.{plainly};
 ghost use Rattle.turn.specs.Step.{stopped, answered, stepOf, verdictOf, advancedTo};
 
@@ -16,12 +15,12 @@ use carry::splits;
 use carry::stores;
 use carry::swaps;
 use carry::writes;
-use effect::Address;
 use effect::Answer;
 use effect::Effect;
-use effect::Settings;
 use effect::execute::Considered;
 use effect::execute::consider;
+use machine::Address;
+use machine::Settings;
 use machine::Stop;
 use machine::capacity;
 

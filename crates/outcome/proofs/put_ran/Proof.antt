@@ -1,6 +1,6 @@
 -- `outcome::put_ran` meets its contract: the line of the run, and then those of the registers.
 use lib.ListN.{take}
-use Rattle.effect.specs.Operands.{pcOf}
+use Rattle.machine.specs.State.{pcOf}
 use Rattle.outcome.specs.Outcome.{exitText, registersText}
 use Rattle.text.proofs.Adds.{added-then}
 use Rattle.outcome.specs.Outcome.{ranText}

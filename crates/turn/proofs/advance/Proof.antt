@@ -1,7 +1,7 @@
 -- `turn::advance` meets its contract: at each return the tests that led there are those before a step, in their order; what was considered tells the rest.
 use mathlib.Core.Bool.{true, false}
-use Rattle.effect.specs.Inner.{movesBy, writesBy, storesBy, pairBy, atLength, consideredOf}
-use Rattle.turn.proofs.Steps.{read-as, refused-with, at-end, off-cells, full, looked-at, float, fault, safe-does, does-step}
+use Rattle.effect.specs.Inner.{movingOf, writingOf, storingOf, splittingOf, swappingOf, meant, toldOf}
+use Rattle.turn.proofs.Steps.{read-as, refused-with, at-end, off-cells, full, looked-at, refused-by, safe-does, does-step}
 use mathlib.Core.Path.{_≡_, refl, _∙_}
 use Prim.Native.Nat.{_<_}
 use lib.ListN.{length}
@@ -9,7 +9,7 @@ use Rattle.machine.specs.State.{State, capacityOf, stateWith}
 use Rattle.effect.specs.declared.execute.Considered.the-variants.{Float, Fault, Still, Writes, Stores, Splits, Swaps, Does}
 use Rattle.machine.proofs.Checks.{has-room, no-room}
 use Rattle.effect.specs.Refusal.{refusedBy}
-use Rattle.turn.specs.Step.{instructionOf, refusalOf}
+use Rattle.turn.specs.Step.{actionIn, refusalOf}
 use borrow.Author.Needs.{needs}
 use Rattle.turn.proofs.advance.Statement.{statement}
 use Rattle.turn.proofs.advance.Tie as tie
@@ -25,11 +25,11 @@ start c = c .before .before .before .before .before .before .before .before .bef
 below : (c : tie.After-consider) → start c .args .depth < capacityOf (start c .args .journal .now)
 below c = has-room _ _ _ (c .before .before .before .before .before .capacity .ensures) (c .before .before .before .before .if3 .left)
 
-looked : (c : tie.After-consider) → refusalOf (state (start c)) ≡ refusedBy (instructionOf (state (start c))) (start c .args .regs .now) (length (start c .args .cells .now))
+looked : (c : tie.After-consider) → refusalOf (state (start c)) ≡ refusedBy (actionIn (state (start c))) (state (start c))
 looked c = looked-at (state (start c)) (c .before .before .before .before .before .before .before .if1 .left) (c .before .before .before .before .before .before .if2 .left) (below c)
 
-considering : (c : tie.After-consider) → atLength (start c .args .s) (c .consider .result) ≡ consideredOf (instructionOf (state (start c))) (start c .args .regs .now) (start c .args .s) (start c .args .cells .now)
-considering c = c .consider .ensures
+considering : (c : tie.After-consider) → meant (start c .args .s) (c .consider .result) ≡ toldOf (actionIn (state (start c))) (state (start c))
+considering c = c .consider .ensures (start c .args .depth) (start c .args .journal .now)
 
 element-copy-out-pc : tie.Need-element-copy-out-pc
 element-copy-out-pc c = search needs
@@ -98,7 +98,7 @@ stores-requires : tie.Need-stores-requires
 stores-requires c κs = let k = c .before .before .before .before .before .before in
     let w = c .before .before .before .before .considered3 .given .0 .0 in
     let told : k .consider .result ≡ Stores w = search needs in
-    let safe = safe-does (state (start k)) (looked k) (storesBy (w .value) (w .address) (w .pc) (start k .args .s)) (read-as _ _ (Stores w) _ told (considering k)) in
+    let safe = safe-does (state (start k)) (looked k) (storingOf w (start k .args .s)) (read-as _ _ (Stores w) _ told (considering k)) in
     (below k, safe .store refl .1)
 
 enum-known-considered-4 : tie.Need-enum-known-considered-4
@@ -128,14 +128,14 @@ same-length c = search needs
 
 returns-4 : tie.Need-returns-4
 returns-4 c = let k = c .before .before .before in
-    rw (c .refused4 .ensures) (refused-with (state (start k)) 6 (float (state (start k)) (looked k) (read-as _ _ Float _ (c .before .enum-told .given .1) (considering k))))
+    rw (c .refused4 .ensures) (refused-with (state (start k)) 6 (refused-by (state (start k)) (looked k) 6 (read-as _ _ Float _ (c .before .enum-told .given .1) (considering k))))
 
 same-length-2 : tie.Need-same-length-2
 same-length-2 c = search needs
 
 returns-5 : tie.Need-returns-5
 returns-5 c = let k = c .before .before .before in
-    rw (c .refused5 .ensures) (refused-with (state (start k)) 5 (fault (state (start k)) (looked k) (read-as _ _ Fault _ (c .before .enum-told2 .given .1) (considering k))))
+    rw (c .refused5 .ensures) (refused-with (state (start k)) 5 (refused-by (state (start k)) (looked k) 5 (read-as _ _ Fault _ (c .before .enum-told2 .given .1) (considering k))))
 
 same-length-3 : tie.Need-same-length-3
 same-length-3 c = search needs
@@ -147,7 +147,7 @@ returns-6 : tie.Need-returns-6
 returns-6 c = let k = c .before .before .before .before .before .before .before .before in
     let w = c .before .before .before .before .before .before .considered .given .0 .0 in
     let told : k .consider .result ≡ Still w = search needs in
-    c .before .before .moves .ensures (start k .args .cells .now) ∙ does-step (state (start k)) (looked k) (movesBy (w .pc) (w .raised) (w .flags) (start k .args .s)) (read-as _ _ (Still w) _ told (considering k))
+    c .before .before .moves .ensures (start k .args .cells .now) ∙ does-step (state (start k)) (looked k) (movingOf w (start k .args .s)) (read-as _ _ (Still w) _ told (considering k))
 
 same-length-5 : tie.Need-same-length-5
 same-length-5 c = search needs
@@ -159,7 +159,7 @@ returns-7 : tie.Need-returns-7
 returns-7 c = let k = c .before .before .before .before .before .before .before .before in
     let w = c .before .before .before .before .before .before .considered2 .given .0 .0 in
     let told : k .consider .result ≡ Writes w = search needs in
-    c .before .before .writes .ensures (start k .args .cells .now) ∙ does-step (state (start k)) (looked k) (writesBy (w .value) (w .raised) (w .flags) (w .n) (w .pc) (start k .args .s)) (read-as _ _ (Writes w) _ told (considering k))
+    c .before .before .writes .ensures (start k .args .cells .now) ∙ does-step (state (start k)) (looked k) (writingOf w (start k .args .s)) (read-as _ _ (Writes w) _ told (considering k))
 
 same-length-7 : tie.Need-same-length-7
 same-length-7 c = search needs
@@ -171,7 +171,7 @@ returns-8 : tie.Need-returns-8
 returns-8 c = let k = c .before .before .before .before .before .before .before .before .before .before .before in
     let w = c .before .before .before .before .before .before .before .before .before .considered3 .given .0 .0 in
     let told : k .consider .result ≡ Stores w = search needs in
-    c .before .before .before .before .stores .ensures ∙ does-step (state (start k)) (looked k) (storesBy (w .value) (w .address) (w .pc) (start k .args .s)) (read-as _ _ (Stores w) _ told (considering k))
+    c .before .before .before .before .stores .ensures ∙ does-step (state (start k)) (looked k) (storingOf w (start k .args .s)) (read-as _ _ (Stores w) _ told (considering k))
 
 same-length-9 : tie.Need-same-length-9
 same-length-9 c = search needs
@@ -183,7 +183,7 @@ returns-9 : tie.Need-returns-9
 returns-9 c = let k = c .before .before .before .before .before .before .before .before in
     let w = c .before .before .before .before .before .before .considered4 .given .0 .0 in
     let told : k .consider .result ≡ Splits w = search needs in
-    c .before .before .splits .ensures (start k .args .cells .now) ∙ does-step (state (start k)) (looked k) (pairBy false (w .first) (w .second) (w .pc) (w .a) (w .b) (start k .args .s)) (read-as _ _ (Splits w) _ told (considering k))
+    c .before .before .splits .ensures (start k .args .cells .now) ∙ does-step (state (start k)) (looked k) (splittingOf w (start k .args .s)) (read-as _ _ (Splits w) _ told (considering k))
 
 same-length-11 : tie.Need-same-length-11
 same-length-11 c = search needs
@@ -195,7 +195,7 @@ returns-10 : tie.Need-returns-10
 returns-10 c = let k = c .before .before .before .before .before .before .before .before in
     let w = c .before .before .before .before .before .before .considered5 .given .0 .0 in
     let told : k .consider .result ≡ Swaps w = search needs in
-    c .before .before .swaps .ensures (start k .args .cells .now) ∙ does-step (state (start k)) (looked k) (pairBy true (w .first) (w .second) (w .pc) (w .a) (w .b) (start k .args .s)) (read-as _ _ (Swaps w) _ told (considering k))
+    c .before .before .swaps .ensures (start k .args .cells .now) ∙ does-step (state (start k)) (looked k) (swappingOf w (start k .args .s)) (read-as _ _ (Swaps w) _ told (considering k))
 
 same-length-13 : tie.Need-same-length-13
 same-length-13 c = search needs

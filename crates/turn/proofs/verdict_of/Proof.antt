@@ -9,7 +9,7 @@ use borrow.Author.Tests.{lt-leb, le-leb, ne-eqb}
 use borrow.Author.Needs.{needs}
 use Rattle.effect.specs.declared.Effect.{Effect}
 use Rattle.effect.specs.declared.Answer.the-variants.{Onward, Interrupt}
-use Rattle.effect.specs.Operands.{firstSpecial}
+use Rattle.machine.specs.State.{firstSpecial}
 use Rattle.machine.specs.Stops.{plainly}
 use Rattle.turn.specs.Step.{going, stopped, answered}
 use Rattle.turn.proofs.verdict_of.Statement.{statement}

@@ -1,6 +1,5 @@
 -- `effect::execute::branch` meets its contract: the test on Rn picks the case.
 use borrow.Author.Tests.{eq-eqb, ne-eqb}
-use Rattle.effect.specs.Inner.{branchOf}
 use borrow.Author.Needs.{needs}
 use Rattle.effect.proofs.execute.branch.Statement.{statement}
 use Rattle.effect.proofs.execute.branch.Tie as tie
@@ -12,11 +11,9 @@ wrapping-add-u32-requires : tie.Need-wrapping-add-u32-requires
 wrapping-add-u32-requires c κs = search needs
 
 returns : tie.Need-returns
-unfolding branchOf
 returns c = rw (eq-eqb _ _ (c .before .before .if1 .taken), c .wrapping-add-u32 .ensures, c .before .se .ensures)
 
 returns-2 : tie.Need-returns-2
-unfolding branchOf
 returns-2 c = rw (ne-eqb _ _ (c .if1 .left))
 
 pub branch-spec : {M : Type 1} → statement M

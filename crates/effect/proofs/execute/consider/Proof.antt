@@ -1,6 +1,9 @@
 -- `effect::execute::consider` meets its contract: the opcode is known in each arm, and in the last that it is none of these.
 use borrow.Author.Tests.{ne-eqb}
-use Rattle.effect.proofs.Opcodes.{swaps, transfers, lower, upper, plain, extended, expanded, splits, float-splits, branches, interrupts, remaining}
+use Rattle.effect.specs.Effect.{effectOf}
+use Rattle.effect.specs.Refusal.{refusedBy}
+use Rattle.effect.specs.Inner.{toldOf}
+use Rattle.effect.proofs.Opcodes.{cpswp, transfers, ldli, ldui, ldliz, ldlise, ldlif, split, fsplit, branches, int, all-others}
 use borrow.Author.Needs.{needs}
 use Rattle.effect.proofs.execute.consider.Statement.{statement}
 use Rattle.effect.proofs.execute.consider.Tie as tie
@@ -114,41 +117,50 @@ operated-requires : tie.Need-operated-requires
 operated-requires c κs = search needs
 
 returns : tie.Need-returns
-returns c = rw (c .before .before .first .ensures, c .match .keys1, c .before .before .before .operand .ensures, c .before .before .before .before .wrapping-add-u32 .ensures) (swaps _ _ _ _ (c .match .keys1))
+unfolding toldOf refusedBy effectOf
+returns c = λ depth journal. rw (cpswp _ (c .match .keys1), c .before .before .first .ensures, c .match .keys1, c .before .before .before .operand .ensures, c .before .before .before .before .wrapping-add-u32 .ensures)
 
 returns-2 : tie.Need-returns-2
-returns-2 c = rw (c .transfer .ensures, c .before .before .before .first .ensures, c .before .before .second .ensures, c .before .match .keys2, c .before .before .before .before .operand .ensures, c .before .before .before .before .before .wrapping-add-u32 .ensures) (transfers _ _ _ _ (c .before .match .keys2))
+returns-2 c = λ depth journal. rw (c .transfer .ensures, c .before .before .before .first .ensures, c .before .before .second .ensures, c .before .match .keys2, c .before .before .before .before .operand .ensures, c .before .before .before .before .before .wrapping-add-u32 .ensures) (transfers _ _ (c .before .match .keys2))
 
 returns-3 : tie.Need-returns-3
-returns-3 c = rw (c .writes .ensures, c .before .before .before .before .operand .ensures, c .before .before .before .before .before .wrapping-add-u32 .ensures) (lower _ _ _ _ (c .before .match .keys3))
+unfolding toldOf refusedBy effectOf
+returns-3 c = λ depth journal. rw (ldli _ (c .before .match .keys3), c .writes .ensures, c .before .before .before .before .operand .ensures, c .before .before .before .before .before .wrapping-add-u32 .ensures)
 
 returns-4 : tie.Need-returns-4
-returns-4 c = rw (c .writes2 .ensures, c .before .before .before .before .operand .ensures, c .before .before .before .before .before .wrapping-add-u32 .ensures) (upper _ _ _ _ (c .before .match .keys4))
+unfolding toldOf refusedBy effectOf
+returns-4 c = λ depth journal. rw (ldui _ (c .before .match .keys4), c .writes2 .ensures, c .before .before .before .before .operand .ensures, c .before .before .before .before .before .wrapping-add-u32 .ensures)
 
 returns-5 : tie.Need-returns-5
-returns-5 c = rw (c .writes3 .ensures, c .before .before .before .before .before .wrapping-add-u32 .ensures) (plain _ _ _ _ (c .before .match .keys5))
+unfolding toldOf refusedBy effectOf
+returns-5 c = λ depth journal. rw (ldliz _ (c .before .match .keys5), c .writes3 .ensures, c .before .before .before .before .before .wrapping-add-u32 .ensures)
 
 returns-6 : tie.Need-returns-6
-returns-6 c = rw (c .writes4 .ensures, c .before .se .ensures, c .before .before .before .before .before .before .wrapping-add-u32 .ensures) (extended _ _ _ _ (c .before .before .match .keys6))
+unfolding toldOf refusedBy effectOf
+returns-6 c = λ depth journal. rw (ldlise _ (c .before .before .match .keys6), c .writes4 .ensures, c .before .se .ensures, c .before .before .before .before .before .before .wrapping-add-u32 .ensures)
 
 returns-7 : tie.Need-returns-7
-returns-7 c = rw (c .writes5 .ensures, c .before .ex .ensures, c .before .before .before .before .before .before .wrapping-add-u32 .ensures) (expanded _ _ _ _ (c .before .before .match .keys7))
+unfolding toldOf refusedBy effectOf
+returns-7 c = λ depth journal. rw (ldlif _ (c .before .before .match .keys7), c .writes5 .ensures, c .before .ex .ensures, c .before .before .before .before .before .before .wrapping-add-u32 .ensures)
 
 returns-8 : tie.Need-returns-8
-returns-8 c = rw (c .before .se2 .ensures, c .se3 .ensures, c .before .before .before .before .before .operand .ensures, c .before .before .before .before .before .before .wrapping-add-u32 .ensures) (splits _ _ _ _ (c .before .before .match .keys8))
+unfolding toldOf refusedBy effectOf
+returns-8 c = λ depth journal. rw (split _ (c .before .before .match .keys8), c .before .se2 .ensures, c .se3 .ensures, c .before .before .before .before .before .operand .ensures, c .before .before .before .before .before .before .wrapping-add-u32 .ensures)
 
 returns-9 : tie.Need-returns-9
-returns-9 c = rw (c .before .ex2 .ensures, c .ex3 .ensures, c .before .before .before .before .before .operand .ensures, c .before .before .before .before .before .before .wrapping-add-u32 .ensures) (float-splits _ _ _ _ (c .before .before .match .keys9))
+unfolding toldOf refusedBy effectOf
+returns-9 c = λ depth journal. rw (fsplit _ (c .before .before .match .keys9), c .before .ex2 .ensures, c .ex3 .ensures, c .before .before .before .before .before .operand .ensures, c .before .before .before .before .before .before .wrapping-add-u32 .ensures)
 
 returns-10 : tie.Need-returns-10
-returns-10 c = rw (c .branch .ensures, c .before .before .before .before .operand .ensures, c .before .before .before .before .before .wrapping-add-u32 .ensures) (branches _ _ _ _ (c .before .match .keys10))
+returns-10 c = λ depth journal. rw (c .branch .ensures, c .before .before .before .before .operand .ensures, c .before .before .before .before .before .wrapping-add-u32 .ensures) (branches _ _ (c .before .match .keys10))
 
 returns-11 : tie.Need-returns-11
-returns-11 c = rw (c .int .ensures, c .before .before .before .before .operand .ensures, c .before .before .before .before .before .wrapping-add-u32 .ensures) (interrupts _ _ _ _ (c .before .match .keys11))
+unfolding toldOf refusedBy effectOf
+returns-11 c = λ depth journal. rw (int _ (c .before .match .keys11), c .int .ensures, c .before .before .before .before .operand .ensures, c .before .before .before .before .before .wrapping-add-u32 .ensures)
 
 returns-12 : tie.Need-returns-12
-returns-12 c = let rest = c .before .match .rest in
-    rw (c .operated .ensures, c .before .before .before .first .ensures, c .before .before .second .ensures, c .before .before .before .before .operand .ensures, c .before .before .before .before .before .wrapping-add-u32 .ensures) (remaining _ _ _ _ (search needs) (ne-eqb _ _ (rest .0 .0 .0 .0 .0 .0 .0 .0 .0 .0 .1)) (ne-eqb _ _ (rest .0 .0 .0 .0 .0 .0 .0 .0 .0 .1)) (ne-eqb _ _ (rest .0 .0 .0 .0 .0 .0 .0 .0 .1)) (ne-eqb _ _ (rest .0 .0 .0 .0 .0 .0 .0 .1)) (ne-eqb _ _ (rest .0 .0 .0 .0 .0 .0 .1)) (ne-eqb _ _ (rest .0 .0 .0 .0 .0 .1)) (ne-eqb _ _ (rest .0 .0 .0 .0 .1)) (ne-eqb _ _ (rest .0 .0 .0 .1)) (ne-eqb _ _ (rest .0 .0 .1)) (ne-eqb _ _ (rest .0 .1)) (ne-eqb _ _ (rest .1)))
+returns-12 c = λ depth journal. let rest = c .before .match .rest in
+    rw (c .operated .ensures, c .before .before .before .first .ensures, c .before .before .second .ensures, c .before .before .before .before .operand .ensures, c .before .before .before .before .before .wrapping-add-u32 .ensures) (all-others _ (search needs) (ne-eqb _ _ (rest .0 .0 .0 .0 .0 .0 .0 .0 .0 .0 .1)) (ne-eqb _ _ (rest .0 .0 .0 .0 .0 .0 .0 .0 .0 .1)) (ne-eqb _ _ (rest .0 .0 .0 .0 .0 .0 .0 .0 .1)) (ne-eqb _ _ (rest .0 .0 .0 .0 .0 .0 .0 .1)) (ne-eqb _ _ (rest .0 .0 .0 .0 .0 .0 .1)) (ne-eqb _ _ (rest .0 .0 .0 .0 .0 .1)) (ne-eqb _ _ (rest .0 .0 .0 .0 .1)) (ne-eqb _ _ (rest .0 .0 .0 .1)) (ne-eqb _ _ (rest .0 .0 .1)) (ne-eqb _ _ (rest .0 .1)) (ne-eqb _ _ (rest .1)) _)
 
 pub consider-spec : {M : Type 1} → statement M
 consider-spec =

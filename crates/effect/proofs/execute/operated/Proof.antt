@@ -1,9 +1,7 @@
 -- `effect::execute::operated` meets its contract: what the operation did is known in each arm, and means the definition's effect.
-use mathlib.Core.Bool.{true, false}
 use mathlib.Core.Path.{_≡_, sym, _∙_}
 use Rattle.word.specs.declared.Operated.the-variants.{Wrote}
-use Rattle.effect.specs.Effect.{flagsOf}
-use Rattle.effect.proofs.Short.{wrote, nothing}
+use Rattle.effect.specs.Parts.{flagsOf}
 use borrow.Author.Needs.{needs}
 use Rattle.effect.proofs.execute.operated.Statement.{statement}
 use Rattle.effect.proofs.execute.operated.Tie as tie
@@ -21,15 +19,17 @@ is-float-requires : tie.Need-is-float-requires
 is-float-requires c κs = search needs
 
 returns : tie.Need-returns
-returns c = rw (← c .before .is-float .ensures, c .if1 .taken) (nothing _ _ _ _ _ _ _ true (sym (c .before .before .enum-told .given .1) ∙ c .before .before .before .before .operate .ensures))
+returns c = let told = sym (c .before .before .enum-told .given .1) ∙ c .before .before .before .before .operate .ensures in
+    rw (← told, ← c .before .is-float .ensures, c .if1 .taken)
 
 returns-2 : tie.Need-returns-2
 unfolding flagsOf
 returns-2 c = let told : c .before .before .before .before .before .before .operate .result ≡ Wrote (c .before .before .before .before .done .given .0 .0) = search needs in
-    wrote _ _ _ _ _ _ _ _ _ (sym told ∙ c .before .before .before .before .before .before .operate .ensures)
+    rw (← c .before .before .before .before .before .before .operate .ensures, told)
 
 returns-3 : tie.Need-returns-3
-returns-3 c = rw (← c .before .before .is-float .ensures, c .before .if1 .left) (nothing _ _ _ _ _ _ _ false (sym (c .before .before .before .enum-told .given .1) ∙ c .before .before .before .before .before .operate .ensures))
+returns-3 c = let told = sym (c .before .before .before .enum-told .given .1) ∙ c .before .before .before .before .before .operate .ensures in
+    rw (← told, ← c .before .before .is-float .ensures, c .before .if1 .left)
 
 pub operated-spec : {M : Type 1} → statement M
 operated-spec =

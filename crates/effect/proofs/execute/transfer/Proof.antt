@@ -1,6 +1,6 @@
 -- `effect::execute::transfer` meets its contract: the tests on both pointers pick the case; a pointer that does not fault can be loaded from.
 use mathlib.Core.Path.{sym, _∙_}
-use Rattle.effect.specs.Inner.{transferOf}
+use Rattle.effect.specs.Inner.{transferBy}
 use Rattle.effect.proofs.Pointers.{no-fault}
 use Rattle.effect.proofs.Short.{whole, idle, load, store}
 use borrow.Author.Needs.{needs}
@@ -11,14 +11,14 @@ is-fault-requires : tie.Need-is-fault-requires
 is-fault-requires c κs = search needs
 
 returns : tie.Need-returns
-unfolding transferOf
+unfolding transferBy
 returns c = rw (← c .before .is-fault .ensures, c .if1 .taken)
 
 is-fault-requires-2 : tie.Need-is-fault-requires-2
 is-fault-requires-2 c κs = search needs
 
 returns-2 : tie.Need-returns-2
-unfolding transferOf
+unfolding transferBy
 returns-2 c = rw (← c .before .before .before .is-fault .ensures, c .before .before .if1 .left, ← c .before .is-fault2 .ensures, c .if2 .taken)
 
 returns-3 : tie.Need-returns-3

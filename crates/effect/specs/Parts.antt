@@ -1,0 +1,122 @@
+-- The parts of what a step does, and an effect put together from them one after the other.
+use Prim.Native.Nat.{ℕ, _+_, _-_, _^_}
+use mathlib.Core.Bool.{Bool, true, false, cond}
+use lib.Bits.{bitAnd, bitOr}
+use lib.Dec.{eqb}
+use Rattle.word.specs.declared.Written.{Written}
+use Rattle.word.specs.Word.{wrap}
+use Rattle.machine.specs.declared.Settings.{Settings}
+use Rattle.machine.specs.State.{State}
+use Rattle.effect.specs.declared.Write.{Write}
+use Rattle.effect.specs.declared.Store.{Store}
+use Rattle.effect.specs.declared.Answer.{Answer}
+use Rattle.effect.specs.declared.Answer.the-variants.{Onward}
+use Rattle.effect.specs.declared.Effect.{Effect}
+use Rattle.effect.specs.Operands.{nextOf, maskAddress, modeAddress}
+
+infixl 20 _▸_
+-- The registers that a step writes, as the journal calls them, and whether b is written first. Unused parts are 0.
+pub record Writes : Type 0 where
+  pub a : Write
+  pub b : Write
+  pub reversed : Bool
+
+-- The settings that a step leaves, and the flags that it wrote as 1.
+pub record Settled : Type 0 where
+  pub settings : Settings
+  pub raised : ℕ
+
+abbrev pub noWrite : Write
+noWrite = record { used = false; number = 0; value = 0 }
+
+abbrev pub noStore : Store
+noStore = record { used = false; address = 0; value = 0 }
+
+abbrev pub gets : ℕ → ℕ → Write
+gets i v = record { used = true; number = i; value = v }
+
+-- An effect of its parts: the next PC, settings, registers, cell, answer.
+abbrev pub made : ℕ → Settled → Writes → Store → Answer → Effect
+made pc t w store answer = record {
+  pc = pc;
+  raised = t .raised;
+  settings = t .settings;
+  a = w .a;
+  b = w .b;
+  reversed = w .reversed;
+  store = store;
+  answer = answer;
+}
+
+abbrev pub settledIn : Effect → Settled
+settledIn e = record { settings = e .settings; raised = e .raised }
+
+abbrev pub registersIn : Effect → Writes
+registersIn e = record { a = e .a; b = e .b; reversed = e .reversed }
+
+-- PC becomes pc, and nothing more
+abbrev pub onward : ℕ → Settings → Effect
+onward pc s =
+    made pc (record { settings = s; raised = 0 }) (record { a = noWrite; b = noWrite; reversed = false }) noStore Onward
+
+abbrev pub still : State → Effect
+still s = onward (nextOf (s .regs)) (s .settings)
+
+-- an effect, and then
+abbrev pub _▸_ : Effect → (Effect → Effect) → Effect
+e ▸ f = f e
+
+-- .. register i gets v, and is the journal's a, or its b
+abbrev pub writeA : ℕ → ℕ → Effect → Effect
+writeA i v e = made (e .pc) (settledIn e) (record { a = gets i v; b = e .b; reversed = e .b .used }) (e .store) (e .answer)
+
+abbrev pub writeB : ℕ → ℕ → Effect → Effect
+writeB i v e = made (e .pc) (settledIn e) (record { a = e .a; b = gets i v; reversed = e .reversed }) (e .store) (e .answer)
+
+-- .. the cell at p gets v
+abbrev pub writeCell : ℕ → ℕ → Effect → Effect
+writeCell p v e = made (e .pc) (settledIn e) (registersIn e) (record { used = true; address = p; value = v }) (e .answer)
+
+-- .. PC gains d
+abbrev pub gain : ℕ → Effect → Effect
+gain d e = made (wrap (e .pc + d)) (settledIn e) (registersIn e) (e .store) (e .answer)
+
+-- .. the answer is this
+abbrev pub say : Answer → Effect → Effect
+say answer e = made (e .pc) (settledIn e) (registersIn e) (e .store) answer
+
+-- .. settings become these, with these flags written as 1
+abbrev pub settle : Settings → ℕ → Effect → Effect
+settle s raised e = made (e .pc) (record { settings = s; raised = raised }) (registersIn e) (e .store) (e .answer)
+
+abbrev pub withFlags : ℕ → Settings → Settings
+withFlags v s = record { flags = v; mask = s .mask; mode = s .mode }
+
+abbrev pub withMask : ℕ → Settings → Settings
+withMask v s = record { flags = s .flags; mask = v; mode = s .mode }
+
+abbrev pub withMode : ℕ → Settings → Settings
+withMode v s = record { flags = s .flags; mask = s .mask; mode = v }
+
+-- An instruction writes the flags it governs as 1 or 0 and keeps the others.
+unfoldable pub flagsOf : ℕ → ℕ → ℕ → ℕ
+flagsOf flags governed raised = bitOr (bitAnd flags (2 ^ 32 - 1 - governed)) raised
+
+-- .. register n gets what an operation wrote, and the flags too
+abbrev pub result : ℕ → Written → Effect → Effect
+result n w e = e ▸ settle (withFlags (flagsOf (e .settings .flags) (w .governed) (w .raised)) (e .settings)) (w .raised) ▸ writeA n (w .value)
+
+-- .. flag 128 is set: illegal LDST and reserved opcodes only advance PC and set flag 128.
+abbrev pub illegal : Effect → Effect
+illegal e = e ▸ settle (withFlags (bitOr (e .settings .flags) 128) (e .settings)) 128
+
+-- .. v is stored at p, or n gets the value v from p; 0 means no transfer
+abbrev pub store : ℕ → ℕ → Effect → Effect
+store p v e =
+    cond (eqb p 0) e
+    (cond (eqb p maskAddress) (e ▸ settle (withMask v (e .settings)) 0)
+    (cond (eqb p modeAddress) (e ▸ settle (withMode v (e .settings)) 0)
+    (e ▸ writeCell p v)))
+
+abbrev pub load : ℕ → ℕ → ℕ → Effect → Effect
+load p n v e = cond (eqb p 0) e (e ▸ writeA n v)
