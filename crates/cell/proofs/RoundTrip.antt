@@ -11,23 +11,23 @@ use Rattle.cell.specs.declared.Instruction.the-variants as instruction
 use Rattle.cell.specs.declared.Operands.the-variants as operands
 use Rattle.cell.specs.declared.Encoded.{Encoded}
 use Rattle.cell.specs.declared.Encoded.the-variants.{Cell, ReservedOpcode, OtherForm}
-use Rattle.cell.specs.Cell.{legal, immediate, formOf, opcodeOf, nOf, mOf, lOf, immOf, readAs, decodeOf, Said, saidOf, writeAs, encodeOf}
+use Rattle.cell.specs.Cell.{legal, immediate, formOf, opcodeOf, nOf, mOf, lOf, immOf, readAs, decodeOf, Reply, encodedReply, writeAs, encodeOf}
 use Rattle.cell.proofs.Tests.{never}
 
 -- number 0 and the cell
-abbrev pub made : ℕ → Said
+abbrev pub made : ℕ → Reply
 made c = record { number = 0; cell = c }
 
 -- the answer that was said
-abbrev heard : Said → Encoded
+abbrev heard : Reply → Encoded
 heard s = cond (eqb (s .number) 0) (Cell (s .cell)) (cond (eqb (s .number) 21) ReservedOpcode OtherForm)
 
-heard-said : (a : Encoded) → heard (saidOf a) ≡ a
+heard-said : (a : Encoded) → heard (encodedReply a) ≡ a
 heard-said (Cell c) = refl
 heard-said ReservedOpcode = refl
 heard-said OtherForm = refl
 
-pub said-once : (a b : Encoded) → saidOf a ≡ saidOf b → a ≡ b
+pub said-once : (a b : Encoded) → encodedReply a ≡ encodedReply b → a ≡ b
 said-once a b e = sym (heard-said a) ∙ ap heard e ∙ heard-said b
 
 -- encoding what was decoded
@@ -83,7 +83,7 @@ module _ (x n : ℕ) (hx : x < 256) (hn : n < 256) where
   registers-written : (f : Form) → formOf x ≡ f → {m l c : ℕ} → m < 256 → l < 256 → writeAs f x (operands.Registers n m l) ≡ made c → (decodeOf c ≡ instruction.Registers x n m l) × (c < 2 ^ 32)
   unfolding decodeOf
   registers-written form.Registers e {m} {l} {c} hm hl w =
-      let s : 16777216 * x + 65536 * n + 256 * m + l ≡ c = ap (λ (s : Said). s .cell) w in
+      let s : 16777216 * x + 65536 * n + 256 * m + l ≡ c = ap (λ (s : Reply). s .cell) w in
       let ex : opcodeOf c ≡ x = omega arith in
       let en : nOf c ≡ n = omega arith in
       let em : mOf c ≡ m = omega arith in
@@ -96,7 +96,7 @@ module _ (x n : ℕ) (hx : x < 256) (hn : n < 256) where
   unfolding decodeOf
   immediate-written form.Registers e hi w = never (cc (ap heard w))
   immediate-written form.Immediate e {i} {c} hi w =
-      let s : 16777216 * x + 65536 * n + i ≡ c = ap (λ (s : Said). s .cell) w in
+      let s : 16777216 * x + 65536 * n + i ≡ c = ap (λ (s : Reply). s .cell) w in
       let ex : opcodeOf c ≡ x = omega arith in
       let en : nOf c ≡ n = omega arith in
       let ei : immOf c ≡ i = omega arith in

@@ -53,23 +53,23 @@ unfoldable pub decodeOf : ℕ → Instruction
 decodeOf c = readAs (formOf (opcodeOf c)) c
 
 -- What encoding says: a refusal's number and no cell, or number 0 and the cell.
-pub record Said : Type 0 where
+pub record Reply : Type 0 where
   pub number : ℕ
   pub cell : ℕ
 
 -- the paper's number of each answer, and its cell
-abbrev pub saidOf : Encoded → Said
-saidOf (Cell c) = record { number = 0; cell = c }
-saidOf ReservedOpcode = record { number = 21; cell = 0 }
-saidOf OtherForm = record { number = 22; cell = 0 }
+abbrev pub encodedReply : Encoded → Reply
+encodedReply (Cell c) = record { number = 0; cell = c }
+encodedReply ReservedOpcode = record { number = 21; cell = 0 }
+encodedReply OtherForm = record { number = 22; cell = 0 }
 
 -- Encoding refuses 21 for a reserved opcode, then 22 for operands of the other form, and returns no cell.
-abbrev pub writeAs : Form → ℕ → Operands → Said
+abbrev pub writeAs : Form → ℕ → Operands → Reply
 writeAs form.Registers x (operands.Registers n m l) = record { number = 0; cell = 16777216 * x + 65536 * n + 256 * m + l }
 writeAs form.Registers x (operands.Immediate n i) = record { number = 22; cell = 0 }
 writeAs form.Immediate x (operands.Registers n m l) = record { number = 22; cell = 0 }
 writeAs form.Immediate x (operands.Immediate n i) = record { number = 0; cell = 16777216 * x + 65536 * n + i }
 writeAs form.Reserved x o = record { number = 21; cell = 0 }
 
-unfoldable pub encodeOf : ℕ → Operands → Said
+unfoldable pub encodeOf : ℕ → Operands → Reply
 encodeOf x o = writeAs (formOf x) x o

@@ -1,6 +1,6 @@
 // A cell as an instruction: decoding it, and encoding it from an opcode and operands.
 ghost use mathlib.Core.Path.{_≡_};
-ghost use Rattle.cell.specs.Cell.{within as inside, legal as legalOf, immediate as immediateOf, formOf, decodeOf, encodeOf, saidOf};
+ghost use Rattle.cell.specs.Cell.{within as inside, legal as legalOf, immediate as immediateOf, formOf, decodeOf, encodeOf, encodedReply};
 
 // How the 24 bits below an opcode are read: three registers, a register and an immediate, or not at all.
 pub enum Form {
@@ -84,7 +84,7 @@ pub fn decode(cell: u32) -> Instruction
 
 // The cell of an opcode and operands, or the refusal.
 pub fn encode(opcode: u8, operands: Operands) -> Encoded
-    ensures { λ r. ⌜ saidOf r ≡ encodeOf opcode operands ⌝ }
+    ensures { λ r. ⌜ encodedReply r ≡ encodeOf opcode operands ⌝ }
 {
     let form = form_of(opcode);
     let high = 16777216 * (opcode as u32);

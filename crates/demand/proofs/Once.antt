@@ -25,7 +25,7 @@ use Rattle.reader.specs.declared.ReadLine.{ReadLine}
 use Rattle.reader.specs.Reader as reader
 use Rattle.reader.proofs.RoundTrip as trips
 use Rattle.machine.specs.declared.Settings.{Settings}
-use Rattle.effect.specs.declared.execute.Considered.{Considered}
+use Rattle.effect.specs.declared.instruction.Considered.{Considered}
 use Rattle.effect.specs.Action.{actionOf}
 use Rattle.effect.specs.Inner.{meant, toldOf}
 use Rattle.machine.specs.declared.Machine.{Machine}
@@ -35,9 +35,9 @@ use Rattle.machine.specs.State.{State, freshMachine, stateOf, stateWith, badCel
 use Rattle.journal.specs.declared.Returned.{Returned}
 use Rattle.journal.specs.Journal.{packedOf, takenBack, returnedOf}
 use Rattle.journal.proofs.Named as returns
-use Rattle.turn.specs.declared.Advanced.{Advanced}
-use Rattle.turn.specs.Step.{advancedTo, stepOf}
-use Rattle.turn.proofs.Named as turns
+use Rattle.step.specs.declared.Advanced.{Advanced}
+use Rattle.step.specs.Step.{advancedTo, stepOf}
+use Rattle.step.proofs.Named as turns
 use Rattle.machine.specs.Stops.{saidOf}
 use Rattle.runner.specs.Calls.{outOf, runOf, backOf}
 use Rattle.runner.proofs.Named as runner
@@ -71,7 +71,7 @@ form-once opcode r t = unique
 pub decode-once : (c : ℕ) (r t : Instruction) → r ≡ cell.decodeOf c → t ≡ cell.decodeOf c → r ≡ t
 decode-once c r t = unique
 
-pub encode-once : (opcode : ℕ) (o : Operands) (r t : Encoded) → cell.saidOf r ≡ cell.encodeOf opcode o → cell.saidOf t ≡ cell.encodeOf opcode o → r ≡ t
+pub encode-once : (opcode : ℕ) (o : Operands) (r t : Encoded) → cell.encodedReply r ≡ cell.encodeOf opcode o → cell.encodedReply t ≡ cell.encodeOf opcode o → r ≡ t
 encode-once opcode o r t p q = cells.said-once r t (unique p q)
 
 -- what is put into a text, whatever the piece: `put`, `put_decimal`, `put_number`, `put_word`
@@ -83,7 +83,7 @@ pub print-once : (c : ℕ) (before : List ℕ) (r t : Printed) (room room' : Lis
 print-once c before r t room room' p q = lines.print-once r t room room' (unique p q)
 
 -- a cell that is read is one of 32 bits
-pub read-once : (text : List ℕ) (r t : ReadLine) → trips.Small r → reader.Reads text (reader.saidOf r) → reader.Reads text (reader.saidOf t) → r ≡ t
+pub read-once : (text : List ℕ) (r t : ReadLine) → trips.Small r → reader.Reads text (reader.readReply r) → reader.Reads text (reader.readReply t) → r ≡ t
 read-once = trips.read-once
 
 -- the stop or the effect, whether it is said in short or at length
@@ -149,7 +149,7 @@ answered (some why) offset = Refused why offset
 abbrev loaded : job.Load → Loaded
 loaded l = record { machine = l .machine; answer = answered (heard (l .said .number)) (l .said .offset) }
 
-answer-said : (a : Answer) → answered (heard (job.saidOf a .number)) (job.saidOf a .offset) ≡ a
+answer-said : (a : Answer) → answered (heard (job.noticeOf a .number)) (job.noticeOf a .offset) ≡ a
 answer-said Done = refl
 answer-said (Refused why offset) = rw (heard-number why)
 

@@ -15,8 +15,8 @@ use borrow.Author.Tests.{eqb-true, eqb-false, le-leb, lt-leb, lt-ltb, le-ltb, eq
 use Rattle.machine.specs.declared.Settings.{Settings}
 use Rattle.machine.specs.State.{InRange, mostCells, freshSettings, badSettings}
 use Rattle.machine.proofs.Tests.{picked}
-use Rattle.job.specs.Job.{littleOf, bytesOf, numberAt, kindBy, knownOf, fitsOf, endsOf, baseOf, countOf, wordsOf, cellsIn, registerOf, valueOf, settingsIn, sizeOf, kindOf, payloadOf, pastOf, inOrder, withinOf, settledIn, passed, courseOf, refusalFrom, Content, contentOf, contentFrom}
-use Rattle.saver.specs.Saving.{recordOf, wordBytes, runOf, runsFrom, valueRecord, valuesFrom, freshOf, setupOf}
+use Rattle.job.specs.Job.{littleOf, bytesOf, numberAt, kindBy, knownOf, fitsOf, endsOf, baseOf, countOf, wordsOf, cellsIn, registerOf, registerValue, settingsIn, sizeOf, kindOf, payloadOf, pastOf, inOrder, withinOf, settingsFit, passed, fateOf, refusalFrom, Content, contentOf, contentFrom}
+use Rattle.saver.specs.Saving.{recordOf, wordBytes, runRecord, runsFrom, valueRecord, valuesFrom, freshOf, setupOf}
 use Rattle.job.proofs.Numbers.{bound, take-bytes, drop-bytes, little-bytes}
 use Rattle.job.proofs.Words.{number-drop}
 use Rattle.job.proofs.Walk.{SoFar}
@@ -46,7 +46,7 @@ record Fine (m : ℕ) (past : SoFar) (n : ℕ) (payload : List ℕ) : Type 0 whe
   fits : fitsOf (kindBy n) (length payload) ≡ true
   order : inOrder past (kindBy n) payload ≡ true
   within : withinOf m (kindBy n) payload ≡ true
-  settled : settledIn (kindBy n) payload ≡ true
+  settled : settingsFit (kindBy n) payload ≡ true
 
 abbrev written : ℕ → List ℕ → List ℕ → List ℕ
 written n payload rest = recordOf n payload ++ rest
@@ -80,8 +80,8 @@ module _ (n : ℕ) (payload rest : List ℕ) (low : n < 65536) (short : length p
   long = length-append (recordOf n payload) rest ∙ ap (λ (k : ℕ). k + length rest) (length-record n payload)
 
   module _ (m : ℕ) (past : SoFar) (f : Fine m past n payload) where
-    course-back : courseOf m past (written n payload rest) ≡ passed (endsOf (kindBy n)) (pastOf past (kindBy n) payload) (length payload)
-    unfolding courseOf
+    course-back : fateOf m past (written n payload rest) ≡ passed (endsOf (kindBy n)) (pastOf past (kindBy n) payload) (length payload)
+    unfolding fateOf
     course-back =
         rw (
           le-ltb (length (written n payload rest)) 6 (omega (arith, long)),
@@ -200,7 +200,7 @@ zero-kept l i z = ap (set l i) (sym (z i (omega arith))) ∙ set-getD l i 0
 abbrev valuePayload : ℕ → ℕ → List ℕ
 valuePayload i v = bytesOf 1 i ++ bytesOf 4 v
 
-value-back : (i v : ℕ) → v < 2 ^ 32 → valueOf (valuePayload i v) ≡ v
+value-back : (i v : ℕ) → v < 2 ^ 32 → registerValue (valuePayload i v) ≡ v
 unfolding bound
 value-back i v h =
     read-past 1 i 0 4 (bytesOf 4 v) ∙ ap (numberAt 0 4) (sym (append-nil (bytesOf 4 v))) ∙ read-number 4 v [] h
@@ -229,7 +229,7 @@ module _ (i v m : ℕ) (past : SoFar) (c : Content) (rest : List ℕ) (final : C
       (subst (λ (x : List ℕ). Reads m past (record { regs = x; settings = c .settings; cells = c .cells }) rest final) (ap (set (c .regs) i) n ∙ zero-kept (c .regs) i z)
       (r past p (omega arith)))
   by-value false e =
-      let k : set (c .regs) (registerOf (valuePayload i v)) (valueOf (valuePayload i v)) ≡ set (c .regs) i v = rw (register-back i v b, value-back i v w) in
+      let k : set (c .regs) (registerOf (valuePayload i v)) (registerValue (valuePayload i v)) ≡ set (c .regs) i v = rw (register-back i v b, value-back i v w) in
       rw (value-record i v (eqb-false v 0 e))
       (reads-on 2 (valuePayload i v) rest (omega arith) (omega (arith, value-payload i v)) m past value-fine c final refl
       (subst (λ (x : List ℕ). Reads m (pastOf past (kindBy 2) (valuePayload i v)) (record { regs = x; settings = c .settings; cells = c .cells }) rest final) (sym k)
@@ -280,8 +280,8 @@ reads-run : (run : List ℕ) (base m : ℕ) (past : SoFar) (c : Content) (rest :
     → m ≤ mostCells → past .rank ≤ 1 → past .end ≤ base → past .next ≤ 0 → base + length run ≤ m → Words32 run
     → ((seen : SoFar) → seen .rank ≤ 1 → seen .end ≤ base + length run → seen .next ≤ 0
     → Reads m seen (record { regs = c .regs; settings = c .settings; cells = sets (c .cells) base run }) rest final)
-    → Reads m past c (runOf base run ++ rest) final
-unfolding runOf inOrder kindBy
+    → Reads m past c (runRecord base run ++ rest) final
+unfolding runRecord inOrder kindBy
 reads-run [] base m past c rest final few p e n b w r = r past p (omega arith) n
 reads-run (v ∷ run) base m past c rest final few p e n b w r =
     let payload = runPayload base (v ∷ run) in
@@ -323,7 +323,7 @@ reads-runs (v ∷ cells) run base m past c rest final few p e n b u w z r =
     let after : sets (c .cells) base (run ++ v ∷ cells) ≡ sets (sets (c .cells) base run) (base + length run + 1) cells
     = sets-append run (v ∷ cells) (c .cells) base
     ∙ rw (zero-there, zero-kept (sets (c .cells) base run) (base + length run) (zeros-sets run (c .cells) base z), add-one (base + length run)) in
-    rw (append-assoc (runOf base run) (runsFrom (base + length run + 1) [] cells) rest)
+    rw (append-assoc (runRecord base run) (runsFrom (base + length run + 1) [] cells) rest)
     (reads-run run base m past c (runsFrom (base + length run + 1) [] cells ++ rest) final few p e n (omega arith) u (λ seen a d k.
     reads-runs cells [] (base + length run + 1) m seen (record { regs = c .regs; settings = c .settings; cells = sets (c .cells) base run }) rest final
     few a (omega arith) k (omega arith) (λ i. omega arith) (λ i. w (suc i)) (λ j h. zeros-sets run (c .cells) base z j (omega arith)) (λ later f g.

@@ -20,8 +20,8 @@ use Rattle.reader.specs.Reader as reader
 use Rattle.machine.proofs.Tests.{picked}
 use Rattle.machine.specs.declared.Machine.{Machine}
 use Rattle.machine.specs.State.{badCells, badSettings}
-use Rattle.job.specs.Job.{Course, refused, last, onward, Said, refusalFrom, refusalIn, loadedBy, loadOf, courseOf, payloadCourse, kindOf, sizeOf, payloadOf, knownOf, fitsOf, inOrder, withinOf, settledIn, endsOf, pastOf, passed, followed, endOf, nothingYet}
-use Rattle.saver.specs.Saving.{Save, savedOf, saveOf, storedOf}
+use Rattle.job.specs.Job.{Fate, refused, last, onward, Notice, refusalFrom, refusalIn, loadedBy, loadOf, fateOf, payloadFate, kindOf, sizeOf, payloadOf, knownOf, fitsOf, inOrder, withinOf, settingsFit, endsOf, pastOf, passed, followed, endOf, nothingYet}
+use Rattle.saver.specs.Saving.{Save, savedOf, saveOf, writtenIn}
 use Rattle.demand.specs.Demands.{listed, encodeSays, printSays, readSays, loadSays, saveSays}
 
 pub encode-said : (opcode : ℕ) (o : Operands) → listed encodeSays (cell.encodeOf opcode o .number) ≡ true
@@ -39,13 +39,13 @@ unfolding line.printOf listed
 print-said c room = picked (λ (s : line.Shown). listed printSays (s .number) ≡ true) (leb (length (line.lineOf c)) (length room)) _ _ (λ t. refl) (λ t. refl)
 
 -- what reading says is by its contract an answer's number
-pub read-said : (r : ReadLine) → listed readSays (reader.saidOf r .number) ≡ true
+pub read-said : (r : ReadLine) → listed readSays (reader.readReply r .number) ≡ true
 unfolding listed
 read-said (Cell c) = refl
 read-said NoLine = refl
 
 -- a record's refusal
-abbrev Fine : Course → Type 0
+abbrev Fine : Fate → Type 0
 Fine (refused k) = listed loadSays k ≡ true
 Fine last = Prim.Unit {0}
 Fine (onward size past) = Prim.Unit {0}
@@ -54,15 +54,15 @@ passed-fine : (t : Bool) (past : _) (size : ℕ) → Fine (passed t past size)
 passed-fine true past size = tt
 passed-fine false past size = tt
 
-payload-fine : (m : ℕ) (past : _) (kind : _) (payload : List ℕ) (size : ℕ) → Fine (payloadCourse m past kind payload size)
+payload-fine : (m : ℕ) (past : _) (kind : _) (payload : List ℕ) (size : ℕ) → Fine (payloadFate m past kind payload size)
 unfolding listed
 payload-fine m past kind payload size =
     picked Fine (not (inOrder past kind payload)) _ _ (λ t. refl) (λ t.
     picked Fine (not (withinOf m kind payload)) _ _ (λ t. refl) (λ t.
-    picked Fine (not (settledIn kind payload)) _ _ (λ t. refl) (λ t. passed-fine (endsOf kind) (pastOf past kind payload) size)))
+    picked Fine (not (settingsFit kind payload)) _ _ (λ t. refl) (λ t. passed-fine (endsOf kind) (pastOf past kind payload) size)))
 
-course-fine : (m : ℕ) (past : _) (left : List ℕ) → Fine (courseOf m past left)
-unfolding courseOf listed
+course-fine : (m : ℕ) (past : _) (left : List ℕ) → Fine (fateOf m past left)
+unfolding fateOf listed
 course-fine m past left =
     picked Fine (ltb (length left) 6) _ _ (λ t. refl) (λ t.
     picked Fine (not (knownOf (kindOf left))) _ _ (λ t. refl) (λ t.
@@ -70,7 +70,7 @@ course-fine m past left =
     picked Fine (ltb (length left) (6 + sizeOf left)) _ _ (λ t. refl) (λ t. payload-fine m past (kindOf left) (payloadOf left) (sizeOf left)))))
 
 -- a job's first refusal, if it has one
-abbrev Listed : Option Said → Type 0
+abbrev Listed : Option Notice → Type 0
 Listed none = Prim.Unit {0}
 Listed (some said) = listed loadSays (said .number) ≡ true
 
@@ -79,8 +79,8 @@ unfolding listed
 end-listed zero offset = tt
 end-listed (suc more) offset = refl
 
-followed-listed : (rest : List ℕ → ℕ → _ → Option Said) → ((left : List ℕ) (offset : ℕ) (past : _) → Listed (rest left offset past))
-    → (c : Course) → Fine c → (left : List ℕ) (offset : ℕ) → Listed (followed rest c left offset)
+followed-listed : (rest : List ℕ → ℕ → _ → Option Notice) → ((left : List ℕ) (offset : ℕ) (past : _) → Listed (rest left offset past))
+    → (c : Fate) → Fine c → (left : List ℕ) (offset : ℕ) → Listed (followed rest c left offset)
 followed-listed rest f (refused k) h left offset = h
 followed-listed rest f last h left offset = end-listed (length left - 6) (offset + 6)
 followed-listed rest f (onward size past) h left offset = f (drop size left) (offset + size) past
@@ -88,13 +88,13 @@ followed-listed rest f (onward size past) h left offset = f (drop size left) (of
 from-listed : (n m : ℕ) (left : List ℕ) (offset : ℕ) (past : _) → Listed (refusalFrom n m left offset past)
 unfolding refusalFrom listed
 from-listed zero m left offset past = refl
-from-listed (suc n) m left offset past = followed-listed (refusalFrom n m) (from-listed n m) (courseOf m past left) (course-fine m past left) left offset
+from-listed (suc n) m left offset past = followed-listed (refusalFrom n m) (from-listed n m) (fateOf m past left) (course-fine m past left) left offset
 
 in-listed : (m : ℕ) (job : List ℕ) → Listed (refusalIn m job)
 unfolding refusalIn listed
 in-listed m job = picked Listed (badCells m) _ _ (λ t. refl) (λ t. from-listed (length job) m job 0 nothingYet)
 
-by-listed : (o : Option Said) (job cells : List ℕ) → Listed o → listed loadSays (loadedBy o job cells .said .number) ≡ true
+by-listed : (o : Option Notice) (job cells : List ℕ) → Listed o → listed loadSays (loadedBy o job cells .said .number) ≡ true
 unfolding listed
 by-listed none job cells h = refl
 by-listed (some said) job cells h = h

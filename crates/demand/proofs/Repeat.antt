@@ -19,7 +19,7 @@ use Rattle.effect.specs.Refusal.{faults, refusedBy}
 use Rattle.machine.proofs.Tests.{picked}
 use Rattle.journal.specs.Journal.{endedOf, regsAfter, lastOf, damagedOf, undoOf}
 use Rattle.machine.specs.Stops.{Said, plainly}
-use Rattle.turn.specs.Step.{Course, going, stopped, refused, trapsOf, answered, courseOf, refusalOf, effectIn, actionIn, moved, stepOf}
+use Rattle.step.specs.Step.{Course, going, stopped, refused, trapsOf, answered, courseOf, refusalOf, effectIn, actionIn, moved, stepOf}
 use Rattle.runner.specs.Calls.{Out, onward, runFrom, backFrom, checkOf, called, callOf, stopAt, runOf, backOf}
 use Rattle.runner.proofs.Counts.{step-refused, run-count, back-count}
 use Rattle.demand.specs.Journey.{steps}

@@ -15,11 +15,11 @@ use Rattle.effect.specs.declared.Effect.{Effect}
 use Rattle.machine.specs.State.{State, mostCells, capacityOf}
 use Rattle.journal.specs.Journal.{applyOf, lastOf, damagedOf, undoOf}
 use Rattle.machine.specs.Stops.{Said, plainly}
-use Rattle.turn.specs.Step.{Course, going, stopped, refused, actionIn, effectIn, refusalOf, moved, stepOf}
+use Rattle.step.specs.Step.{Course, going, stopped, refused, actionIn, effectIn, refusalOf, moved, stepOf}
 use Rattle.runner.specs.Calls.{Out, stopAt, onward, runFrom, backFrom, checkOf, called, backOf}
 use Rattle.effect.proofs.Blind as blind
-use Rattle.turn.proofs.Steps.{room}
-use Rattle.turn.proofs.Keeps.{clear, formed-in, lawful-after}
+use Rattle.step.proofs.Steps.{room}
+use Rattle.step.proofs.Keeps.{clear, formed-in, lawful-after}
 use Rattle.machine.proofs.Lawful.{Lawful}
 use Rattle.journal.proofs.Entry.{Room, withJournal, intact-with, undo-with, up-to, last-known, earlier-known, lengths}
 use Rattle.runner.proofs.Counts.{done, course-done}

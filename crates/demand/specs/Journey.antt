@@ -5,7 +5,7 @@ use mathlib.Core.List.{List, [], _∷_}
 use Rattle.machine.specs.declared.Settings.{Settings}
 use Rattle.machine.specs.State.{State}
 use Rattle.machine.specs.Stops.{plainly}
-use Rattle.turn.specs.Step.{stepOf}
+use Rattle.step.specs.Step.{stepOf}
 use Rattle.runner.specs.Calls.{Out, runOf, backOf}
 
 -- A call: a step, a run of a budget, or back by a number.

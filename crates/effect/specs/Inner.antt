@@ -13,12 +13,12 @@ use Rattle.machine.specs.State.{State, firstSpecial}
 use Rattle.effect.specs.declared.Write.{Write}
 use Rattle.effect.specs.declared.Store.{Store}
 use Rattle.effect.specs.declared.Effect.{Effect}
-use Rattle.effect.specs.declared.execute.Moving.{Moving}
-use Rattle.effect.specs.declared.execute.Writing.{Writing}
-use Rattle.effect.specs.declared.execute.Storing.{Storing}
-use Rattle.effect.specs.declared.execute.Pairing.{Pairing}
-use Rattle.effect.specs.declared.execute.Considered.{Considered}
-use Rattle.effect.specs.declared.execute.Considered.the-variants.{Float, Fault, Still, Writes, Stores, Splits, Swaps, Does}
+use Rattle.effect.specs.declared.instruction.Moving.{Moving}
+use Rattle.effect.specs.declared.instruction.Writing.{Writing}
+use Rattle.effect.specs.declared.instruction.Storing.{Storing}
+use Rattle.effect.specs.declared.instruction.Pairing.{Pairing}
+use Rattle.effect.specs.declared.instruction.Considered.{Considered}
+use Rattle.effect.specs.declared.instruction.Considered.the-variants.{Float, Fault, Still, Writes, Stores, Splits, Swaps, Does}
 use Rattle.effect.specs.Action.{Action}
 use Rattle.effect.specs.Operands.{maskAddress, modeAddress, behind}
 use Rattle.effect.specs.Parts.{noWrite, noStore, gets, onward, _▸_, writeA, writeB, writeCell, settle, withFlags, result, illegal, store, load}

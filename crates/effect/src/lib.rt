@@ -1,6 +1,6 @@
 // What an instruction does, as a value: made from the registers, the settings and the cells before it, with nothing written.
 mod effects;
-pub mod execute;
+pub mod instruction;
 
 use machine::Settings;
 

@@ -17,7 +17,7 @@ use Rattle.machine.proofs.Lawful.{Words, set-words, Lawful}
 use Rattle.job.specs.declared.records.Kind.{Kind}
 use Rattle.job.specs.declared.records.Kind.the-variants.{Run, Register, Setup, End, Other}
 use Rattle.job.specs.declared.records.Past.{Past}
-use Rattle.job.specs.Job.{wordsOf, cellsIn, baseOf, countOf, registerOf, valueOf, settingsIn, knownOf, fitsOf, endsOf, sizeOf, kindOf, payloadOf, inOrder, withinOf, settledIn, pastOf, nothingYet, Course, refused, last, onward, passed, courseOf, Said, refusedAt, endOf, followed, refusalFrom, refusalIn, Content, contentOf, contentFrom, unnamed, loadedBy, loadOf}
+use Rattle.job.specs.Job.{wordsOf, cellsIn, baseOf, countOf, registerOf, registerValue, settingsIn, knownOf, fitsOf, endsOf, sizeOf, kindOf, payloadOf, inOrder, withinOf, settingsFit, pastOf, nothingYet, Fate, refused, last, onward, passed, fateOf, Notice, refusedAt, endOf, followed, refusalFrom, refusalIn, Content, contentOf, contentFrom, unnamed, loadedBy, loadOf}
 use Rattle.job.proofs.Numbers.{Bytes, bytes-drop, bytes-take, below-4}
 use Rattle.machine.proofs.Checks.{not-above}
 use Rattle.job.proofs.Walk.{passing}
@@ -57,7 +57,7 @@ in-range s h =
     }
 
 -- a record that has passed keeps it
-carried : (m : ℕ) (kind : Kind) (payload : List ℕ) (c : Content) → Bytes payload → settledIn kind payload ≡ true → Good m c → Good m (contentOf kind payload c)
+carried : (m : ℕ) (kind : Kind) (payload : List ℕ) (c : Content) → Bytes payload → settingsFit kind payload ≡ true → Good m c → Good m (contentOf kind payload c)
 carried m Run payload c b s g = record {
   registers = g .registers;
   words = g .words;
@@ -66,8 +66,8 @@ carried m Run payload c b s g = record {
   size = length-sets (c .cells) (baseOf payload) (cellsIn payload) ∙ g .size;
 }
 carried m Register payload c b s g = record {
-  registers = length-set (c .regs) (registerOf payload) (valueOf payload) ∙ g .registers;
-  words = set-words (c .regs) (registerOf payload) (valueOf payload) (g .words) (below-4 1 4 payload (omega arith) b);
+  registers = length-set (c .regs) (registerOf payload) (registerValue payload) ∙ g .registers;
+  words = set-words (c .regs) (registerOf payload) (registerValue payload) (g .words) (below-4 1 4 payload (omega arith) b);
   settled = g .settled;
   cells = g .cells;
   size = g .size;
@@ -97,9 +97,9 @@ goes-by false past seen size n h = (refl, cc)
 walked : (n m : ℕ) (left : List ℕ) (offset : ℕ) (past : Past) (c : Content) → Bytes left → refusalFrom n m left offset past ≡ none → Good m c → Good m (contentFrom n left c)
 unfolding refusalFrom contentFrom
 walked zero m left offset past c b h g = impossible (cc)
-walked (suc n) m left offset past c b h g = by-course (courseOf m past left) refl h (λ size seen d e. walked n m d e seen _) g
+walked (suc n) m left offset past c b h g = by-course (fateOf m past left) refl h (λ size seen d e. walked n m d e seen _) g
   where
-    by-course : (v : Course) → courseOf m past left ≡ v → followed (refusalFrom n m) v left offset ≡ none
+    by-course : (v : Fate) → fateOf m past left ≡ v → followed (refusalFrom n m) v left offset ≡ none
         → ((size : ℕ) (seen : Past) (d : List ℕ) (e : ℕ) → Bytes d → refusalFrom n m d e seen ≡ none → Good m (contentOf (kindOf left) (payloadOf left) c) → Good m (contentFrom n d (contentOf (kindOf left) (payloadOf left) c)))
         → Good m c → Good m (cond (endsOf (kindOf left)) c (contentFrom n (drop (6 + sizeOf left) left) (contentOf (kindOf left) (payloadOf left) c)))
     by-course (refused k) e q f g = impossible (cc)
@@ -115,11 +115,11 @@ walked (suc n) m left offset past c b h g = by-course (courseOf m past left) ref
         (carried m (kindOf left) (payloadOf left) c (bytes-take (sizeOf left) (drop 6 left) (bytes-drop 6 left b)) (p .settled) g))
 
 -- a refusal has a number, so that what is said tells whether a job loads
-abbrev Named : Option Said → Type 0
+abbrev Named : Option Notice → Type 0
 Named none = Prim.Unit {0}
 Named (some x) = x .number ≡ 0 → ⊥
 
-abbrev Numbered : Course → Type 0
+abbrev Numbered : Fate → Type 0
 Numbered (refused k) = k ≡ 0 → ⊥
 Numbered last = Prim.Unit {0}
 Numbered (onward size past) = Prim.Unit {0}
@@ -128,8 +128,8 @@ passed-numbered : (t : Bool) (past : Past) (size : ℕ) → Numbered (passed t p
 passed-numbered true past size = tt
 passed-numbered false past size = tt
 
-course-numbered : (m : ℕ) (past : Past) (left : List ℕ) → Numbered (courseOf m past left)
-unfolding courseOf
+course-numbered : (m : ℕ) (past : Past) (left : List ℕ) → Numbered (fateOf m past left)
+unfolding fateOf
 course-numbered m past left =
     let kind = kindOf left in
     let payload = payloadOf left in
@@ -139,14 +139,14 @@ course-numbered m past left =
     picked Numbered (ltb (length left) (6 + sizeOf left)) _ _ (λ t e. omega arith) (λ t.
     picked Numbered (not (inOrder past kind payload)) _ _ (λ t e. omega arith) (λ t.
     picked Numbered (not (withinOf m kind payload)) _ _ (λ t e. omega arith) (λ t.
-    picked Numbered (not (settledIn kind payload)) _ _ (λ t e. omega arith) (λ t.
+    picked Numbered (not (settingsFit kind payload)) _ _ (λ t e. omega arith) (λ t.
     passed-numbered (endsOf kind) (pastOf past kind payload) (sizeOf left))))))))
 
 end-named : (more offset : ℕ) → Named (endOf more offset)
 end-named zero offset = tt
 end-named (suc more) offset = λ e. omega arith
 
-follow-named : (rest : List ℕ → ℕ → Past → Option Said) (v : Course) (left : List ℕ) (offset : ℕ) → Numbered v
+follow-named : (rest : List ℕ → ℕ → Past → Option Notice) (v : Fate) (left : List ℕ) (offset : ℕ) → Numbered v
     → ((l : List ℕ) (o : ℕ) (p : Past) → Named (rest l o p)) → Named (followed rest v left offset)
 follow-named rest (refused k) left offset h f = h
 follow-named rest last left offset h f = end-named (length left - 6) (offset + 6)
@@ -156,7 +156,7 @@ walk-named : (n m : ℕ) (left : List ℕ) (offset : ℕ) (past : Past) → Name
 unfolding refusalFrom
 walk-named zero m left offset past = λ e. omega arith
 walk-named (suc n) m left offset past =
-    follow-named (refusalFrom n m) (courseOf m past left) left offset (course-numbered m past left) (walk-named n m)
+    follow-named (refusalFrom n m) (fateOf m past left) left offset (course-numbered m past left) (walk-named n m)
 
 refusal-named : (m : ℕ) (job : List ℕ) → Named (refusalIn m job)
 unfolding refusalIn
@@ -166,15 +166,15 @@ refusal-named m job = picked Named (badCells m) _ _ (λ t e. omega arith) (λ t.
 abbrev pub Loads : List ℕ → List ℕ → Type 0
 Loads job cells = loadOf job cells .said ≡ record { number = 0; offset = 0 }
 
-loads : (o : Option Said) (job cells : List ℕ) → Named o → loadedBy o job cells .said ≡ record { number = 0; offset = 0 } → o ≡ none
+loads : (o : Option Notice) (job cells : List ℕ) → Named o → loadedBy o job cells .said ≡ record { number = 0; offset = 0 } → o ≡ none
 loads none job cells f h = refl
-loads (some x) job cells f h = absurd (f (ap (λ (y : Said). y .number) h))
+loads (some x) job cells f h = absurd (f (ap (λ (y : Notice). y .number) h))
 
 module _ (job cells : List ℕ) (bytes : Bytes job) (h : Loads job cells) where
   free : refusalIn (length cells) job ≡ none
   free = loads (refusalIn (length cells) job) job cells (refusal-named (length cells) job) h
 
-  split : (t : Bool) (m : ℕ) {o : Option Said} → cond t (refusedAt 12 0) o ≡ none → (t ≡ false) × (o ≡ none)
+  split : (t : Bool) (m : ℕ) {o : Option Notice} → cond t (refusedAt 12 0) o ≡ none → (t ≡ false) × (o ≡ none)
   split true m e = impossible (cc)
   split false m e = (refl, e)
 

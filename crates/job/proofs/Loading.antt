@@ -11,7 +11,7 @@ use Rattle.machine.specs.State.{freshMachine, badCells}
 use Rattle.refusal.specs.declared.Refusal.{Refusal}
 use Rattle.job.specs.declared.Answer.{Answer}
 use Rattle.job.specs.declared.Answer.the-variants.{Done, Refused}
-use Rattle.job.specs.Job.{nothingYet, refusalFrom, Content, contentFrom, unnamed, saidOf, loadedWith, refusalIn, loadOf}
+use Rattle.job.specs.Job.{nothingYet, refusalFrom, Content, contentFrom, unnamed, noticeOf, loadedWith, refusalIn, loadOf}
 use Rattle.job.specs.Inner.{refusalOf}
 
 unfolded : (job cells : List ℕ) → badCells (length cells) ≡ false → refusalIn (length cells) job ≡ refusalFrom (length job) (length cells) job 0 nothingYet
@@ -30,7 +30,7 @@ module _ (job cells : List ℕ) where
 
   pub load-refused : (m : Machine) (answer : Answer) (why : Refusal) (offset : ℕ) → m ≡ freshMachine → badCells (length cells) ≡ false → answer ≡ Refused why offset
       → refusalOf answer ≡ refusalFrom (length job) (length cells) job 0 nothingYet
-      → record { machine = m; cells = cells; said = saidOf answer } ≡ loadOf job cells
+      → record { machine = m; cells = cells; said = noticeOf answer } ≡ loadOf job cells
   load-refused m answer why offset f h t e =
       let s : refusalFrom (length job) (length cells) job 0 nothingYet ≡ refusalOf (Refused why offset) = sym e ∙ ap refusalOf t in
       rw (unfolded job cells h, s, f, t)

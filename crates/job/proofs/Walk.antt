@@ -13,7 +13,7 @@ use borrow.Author.Tests.{ltb-false, lt-ltb, not-false}
 use Rattle.job.specs.declared.records.Kind.{Kind}
 use Rattle.job.specs.declared.records.Past.{Past}
 use Rattle.job.specs.declared.reading.Look.{Look}
-use Rattle.job.specs.Job.{numberAt, kindBy, knownOf, fitsOf, endsOf, sizeOf, kindOf, payloadOf, pastOf, nothingYet, inOrder, withinOf, settledIn, Course, refused, last, onward, passed, courseOf, Said, refusedAt, followed, refusalFrom, Content, contentOf, contentFrom}
+use Rattle.job.specs.Job.{numberAt, kindBy, knownOf, fitsOf, endsOf, sizeOf, kindOf, payloadOf, pastOf, nothingYet, inOrder, withinOf, settingsFit, Fate, refused, last, onward, passed, fateOf, Notice, refusedAt, followed, refusalFrom, Content, contentOf, contentFrom}
 use Rattle.job.specs.Inner.{lookedOf, Sound}
 
 -- what the records so far leave to the order, by a name for the crates above
@@ -21,7 +21,7 @@ abbrev pub SoFar : Type 0
 SoFar = Past
 
 -- a record that is not refused
-abbrev pub goes : Course → Bool
+abbrev pub goes : Fate → Bool
 goes (refused k) = false
 goes last = true
 goes (onward size past) = true
@@ -29,23 +29,23 @@ goes (onward size past) = true
 clash : false ≡ true → ⊥
 clash h = let z : _≡_ {A = ℕ} 0 1 = cc in omega arith
 
-by : (t : Bool) (k : ℕ) (o v : Course) → goes v ≡ true → cond t (refused k) o ≡ v → (t ≡ false) × (o ≡ v)
+by : (t : Bool) (k : ℕ) (o v : Fate) → goes v ≡ true → cond t (refused k) o ≡ v → (t ≡ false) × (o ≡ v)
 by true k o v g h = absurd (clash (ap goes h ∙ g))
 by false k o v g h = (refl, h)
 
 -- has passed every test
-pub record Passed (m : ℕ) (past : Past) (left : List ℕ) (v : Course) : Type 0 where
+pub record Passed (m : ℕ) (past : Past) (left : List ℕ) (v : Fate) : Type 0 where
   pub head : 6 ≤ length left
   pub known : knownOf (kindOf left) ≡ true
   pub fits : fitsOf (kindOf left) (sizeOf left) ≡ true
   pub whole : 6 + sizeOf left ≤ length left
   pub order : inOrder past (kindOf left) (payloadOf left) ≡ true
   pub within : withinOf m (kindOf left) (payloadOf left) ≡ true
-  pub settled : settledIn (kindOf left) (payloadOf left) ≡ true
+  pub settled : settingsFit (kindOf left) (payloadOf left) ≡ true
   pub course : passed (endsOf (kindOf left)) (pastOf past (kindOf left) (payloadOf left)) (sizeOf left) ≡ v
 
-pub passing : (m : ℕ) (past : Past) (left : List ℕ) (v : Course) → goes v ≡ true → courseOf m past left ≡ v → Passed m past left v
-unfolding courseOf
+pub passing : (m : ℕ) (past : Past) (left : List ℕ) (v : Fate) → goes v ≡ true → fateOf m past left ≡ v → Passed m past left v
+unfolding fateOf
 passing m past left v g h =
     let a = by (ltb (length left) 6) 41 _ v g h in
     let b = by (not (knownOf (kindOf left))) 42 _ v g (a .1) in
@@ -53,7 +53,7 @@ passing m past left v g h =
     let d = by (ltb (length left) (6 + sizeOf left)) 44 _ v g (c .1) in
     let e = by (not (inOrder past (kindOf left) (payloadOf left))) 46 _ v g (d .1) in
     let f = by (not (withinOf m (kindOf left) (payloadOf left))) 45 _ v g (e .1) in
-    let s = by (not (settledIn (kindOf left) (payloadOf left))) 10 _ v g (f .1) in
+    let s = by (not (settingsFit (kindOf left) (payloadOf left))) 10 _ v g (f .1) in
     record {
       head = ltb-false (length left) 6 (a .0);
       known = not-false (knownOf (kindOf left)) (b .0);
@@ -61,7 +61,7 @@ passing m past left v g h =
       whole = ltb-false (length left) (6 + sizeOf left) (d .0);
       order = not-false (inOrder past (kindOf left) (payloadOf left)) (e .0);
       within = not-false (withinOf m (kindOf left) (payloadOf left)) (f .0);
-      settled = not-false (settledIn (kindOf left) (payloadOf left)) (s .0);
+      settled = not-false (settingsFit (kindOf left) (payloadOf left)) (s .0);
       course = s .1;
     }
 
@@ -74,12 +74,12 @@ pub payload-length : (left : List ℕ) → 6 + sizeOf left ≤ length left → l
 payload-length left h = length-take-le (sizeOf left) (drop 6 left) (simp length-drop (omega arith))
 
 -- where no byte is left, a walk's end is the record's own refusal
-none-left : (m : ℕ) (past : Past) (left : List ℕ) → length left ≤ 0 → courseOf m past left ≡ refused 41
-unfolding courseOf
+none-left : (m : ℕ) (past : Past) (left : List ℕ) → length left ≤ 0 → fateOf m past left ≡ refused 41
+unfolding fateOf
 none-left m past left h = rw (lt-ltb (length left) 6 (omega arith))
 
 turn : (fuel m : ℕ) (left : List ℕ) (offset : ℕ) (past : Past) → length left ≤ fuel
-    → refusalFrom fuel m left offset past ≡ followed (refusalFrom (pred fuel) m) (courseOf m past left) left offset
+    → refusalFrom fuel m left offset past ≡ followed (refusalFrom (pred fuel) m) (fateOf m past left) left offset
 unfolding refusalFrom
 turn zero m left offset past h = rw (none-left m past left h)
 turn (suc n) m left offset past h = refl
@@ -108,8 +108,8 @@ pub payload-there : (job : List ℕ) (at n : ℕ) → n ≡ sizeOf (drop at job)
 payload-there job at n e = let f : 6 + n - 6 ≡ n = omega arith in rw (f, rest-of at job, e)
 
 -- the record at an offset, as the part that is lent shows it, with the answer's case known
-pub as-looked : (m : ℕ) (past : Past) (job : List ℕ) (at : ℕ) (r v : Look) → r ≡ v → lookedOf r ≡ courseOf m past (take (length job - at) (drop at job))
-    → courseOf m past (drop at job) ≡ lookedOf v
+pub as-looked : (m : ℕ) (past : Past) (job : List ℕ) (at : ℕ) (r v : Look) → r ≡ v → lookedOf r ≡ fateOf m past (take (length job - at) (drop at job))
+    → fateOf m past (drop at job) ≡ lookedOf v
 as-looked m past job at r v t e = sym (rw (rest-of at job, t) at e)
 
 -- A walk that is under way: what is left of it leads where the whole walk leads.
@@ -123,27 +123,27 @@ pub set-out : (m : ℕ) (job : List ℕ) → Underway m job 0 nothingYet
 set-out m job = record { inside = omega arith; fuel = length job; enough = omega arith; rest = refl }
 
 module _ (m : ℕ) (job : List ℕ) (at : ℕ) (past : Past) (u : Underway m job at past) where
-  one-more : (v : Course) → courseOf m past (drop at job) ≡ v
+  one-more : (v : Fate) → fateOf m past (drop at job) ≡ v
       → followed (refusalFrom (pred (u .fuel)) m) v (drop at job) at ≡ refusalFrom (length job) m job 0 nothingYet
   one-more v e = rw (← e) (sym (turn (u .fuel) m (drop at job) at past (simp length-drop (u .enough))) ∙ u .rest)
 
-  pub refused-at : (k : ℕ) → courseOf m past (drop at job) ≡ refused k → refusedAt k at ≡ refusalFrom (length job) m job 0 nothingYet
+  pub refused-at : (k : ℕ) → fateOf m past (drop at job) ≡ refused k → refusedAt k at ≡ refusalFrom (length job) m job 0 nothingYet
   refused-at k e = one-more (refused k) e
 
-  pub head-there : courseOf m past (drop at job) ≡ last → 6 ≤ length job - at
+  pub head-there : fateOf m past (drop at job) ≡ last → 6 ≤ length job - at
   head-there e = let p = passing m past (drop at job) last refl e in rw length-drop at (p .head)
 
-  pub more-after : courseOf m past (drop at job) ≡ last → at + 6 < length job → refusedAt 47 (at + 6) ≡ refusalFrom (length job) m job 0 nothingYet
+  pub more-after : fateOf m past (drop at job) ≡ last → at + 6 < length job → refusedAt 47 (at + 6) ≡ refusalFrom (length job) m job 0 nothingYet
   more-after e h =
       let n : length (drop at job) - 6 ≡ suc (length job - at - 7) = simp length-drop (omega arith) in
       sym (rw n refl) ∙ one-more last e
 
-  pub none-after : courseOf m past (drop at job) ≡ last → length job ≤ at + 6 → none ≡ refusalFrom (length job) m job 0 nothingYet
+  pub none-after : fateOf m past (drop at job) ≡ last → length job ≤ at + 6 → none ≡ refusalFrom (length job) m job 0 nothingYet
   none-after e h =
       let n : length (drop at job) - 6 ≡ 0 = simp length-drop (omega arith) in
       sym (rw n refl) ∙ one-more last e
 
-  module _ (size : ℕ) (seen : Past) (e : courseOf m past (drop at job) ≡ onward size seen) where
+  module _ (size : ℕ) (seen : Past) (e : fateOf m past (drop at job) ≡ onward size seen) where
     fitting : Passed m past (drop at job) (onward size seen)
     fitting = passing m past (drop at job) (onward size seen) refl e
 
@@ -165,7 +165,7 @@ module _ (m : ℕ) (job : List ℕ) (at : ℕ) (past : Past) (u : Underway m job
         }
 
 -- a walk that ends in no refusal has none at its next record
-going : (rest : List ℕ → ℕ → Past → Option Said) (v : Course) (left : List ℕ) (offset : ℕ) → followed rest v left offset ≡ none → goes v ≡ true
+going : (rest : List ℕ → ℕ → Past → Option Notice) (v : Fate) (left : List ℕ) (offset : ℕ) → followed rest v left offset ≡ none → goes v ≡ true
 going rest (refused k) left offset h = let z : _≡_ {A = ℕ} 0 1 = cc in absurd (omega arith)
 going rest last left offset h = refl
 going rest (onward size past) left offset h = refl
@@ -196,11 +196,11 @@ carried zero left c p e = absurd (omega arith)
 carried (suc n) left c p e = rw e
 
 module _ (m : ℕ) (job : List ℕ) (from : Content) (at : ℕ) (now : Content) (u : Carrying m job from at now) where
-  walked : followed (refusalFrom (pred (u .fuel)) m) (courseOf m (u .past) (drop at job)) (drop at job) at ≡ none
+  walked : followed (refusalFrom (pred (u .fuel)) m) (fateOf m (u .past) (drop at job)) (drop at job) at ≡ none
   walked = sym (turn (u .fuel) m (drop at job) at (u .past) (simp length-drop (u .enough))) ∙ u .sound
 
-  pub fine : Passed m (u .past) (drop at job) (courseOf m (u .past) (drop at job))
-  fine = passing m (u .past) (drop at job) _ (going (refusalFrom (pred (u .fuel)) m) (courseOf m (u .past) (drop at job)) (drop at job) at walked) refl
+  pub fine : Passed m (u .past) (drop at job) (fateOf m (u .past) (drop at job))
+  fine = passing m (u .past) (drop at job) _ (going (refusalFrom (pred (u .fuel)) m) (fateOf m (u .past) (drop at job)) (drop at job) at walked) refl
 
   -- the record's bytes are there
   pub there : (6 ≤ length job - at) × (6 + sizeOf (drop at job) ≤ length job - at)
@@ -213,7 +213,7 @@ module _ (m : ℕ) (job : List ℕ) (from : Content) (at : ℕ) (now : Content) 
   over e = let t = there in sym (ended (u .fuel) (drop at job) now (omega (arith, u .enough)) e) ∙ u .rest
 
   module _ (e : endsOf (kindOf (drop at job)) ≡ false) where
-    next-course : onward (6 + sizeOf (drop at job)) (pastOf (u .past) (kindOf (drop at job)) (payloadOf (drop at job))) ≡ courseOf m (u .past) (drop at job)
+    next-course : onward (6 + sizeOf (drop at job)) (pastOf (u .past) (kindOf (drop at job)) (payloadOf (drop at job))) ≡ fateOf m (u .past) (drop at job)
     next-course = let c = fine .course in rw e at c
 
     pub on : (next : Content) → next ≡ contentOf (kindOf (drop at job)) (payloadOf (drop at job)) now → length (next .cells) ≡ length (now .cells)
@@ -221,7 +221,7 @@ module _ (m : ℕ) (job : List ℕ) (from : Content) (at : ℕ) (now : Content) 
     on next p q =
         let t = there in
         let h : followed (refusalFrom (pred (u .fuel)) m) (onward (6 + sizeOf (drop at job)) (pastOf (u .past) (kindOf (drop at job)) (payloadOf (drop at job)))) (drop at job) at ≡ none
-        = ap (λ (v : Course). followed (refusalFrom (pred (u .fuel)) m) v (drop at job) at) next-course ∙ walked in
+        = ap (λ (v : Fate). followed (refusalFrom (pred (u .fuel)) m) v (drop at job) at) next-course ∙ walked in
         record {
           inside = omega (arith, u .inside);
           cells = q ∙ u .cells;

@@ -11,16 +11,16 @@ use Rattle.job.specs.declared.Answer.the-variants.{Done, Refused}
 use Rattle.job.specs.declared.records.Kind.{Kind}
 use Rattle.job.specs.declared.reading.Look.{Look}
 use Rattle.job.specs.declared.reading.Look.the-variants.{Bad, Last, Next}
-use Rattle.job.specs.Job.{fitsOf, withinOf, Course, refused, last, onward, Said, Content}
+use Rattle.job.specs.Job.{fitsOf, withinOf, Fate, refused, last, onward, Notice, Content}
 use Rattle.refusal.specs.Refusal.{numberOf}
 
 -- the course of a record, and the refusal of a job, from the code's answers
-abbrev pub lookedOf : Look → Course
+abbrev pub lookedOf : Look → Fate
 lookedOf (Bad why) = refused (numberOf why)
 lookedOf Last = last
 lookedOf (Next size past) = onward size past
 
-abbrev pub refusalOf : Answer → Option Said
+abbrev pub refusalOf : Answer → Option Notice
 refusalOf Done = none
 refusalOf (Refused why offset) = some (record { number = numberOf why; offset = offset })
 

@@ -81,8 +81,8 @@ cellsIn payload = wordsOf (countOf payload) (drop 2 payload)
 abbrev pub registerOf : List ℕ → ℕ
 registerOf payload = numberAt 0 1 payload
 
-abbrev pub valueOf : List ℕ → ℕ
-valueOf payload = numberAt 1 4 payload
+abbrev pub registerValue : List ℕ → ℕ
+registerValue payload = numberAt 1 4 payload
 
 -- flags, mask and mode
 abbrev pub settingsIn : List ℕ → Settings
@@ -138,63 +138,63 @@ withinOf m End payload = true
 withinOf m Other payload = true
 
 -- 10: flags or mask above 511, mode above 3.
-abbrev pub settledIn : Kind → List ℕ → Bool
-settledIn Run payload = true
-settledIn Register payload = true
-settledIn Setup payload = not (badSettings (settingsIn payload))
-settledIn End payload = true
-settledIn Other payload = true
+abbrev pub settingsFit : Kind → List ℕ → Bool
+settingsFit Run payload = true
+settingsFit Register payload = true
+settingsFit Setup payload = not (badSettings (settingsIn payload))
+settingsFit End payload = true
+settingsFit Other payload = true
 
 -- What becomes of a record: refused with a number, the last, or on to the next with this record's bytes and the past.
-pub data Course : Type 0 where
-  refused : ℕ → Course
-  last : Course
-  onward : ℕ → Past → Course
+pub data Fate : Type 0 where
+  refused : ℕ → Fate
+  last : Fate
+  onward : ℕ → Past → Fate
 
-abbrev pub passed : Bool → Past → ℕ → Course
+abbrev pub passed : Bool → Past → ℕ → Fate
 passed true past size = last
 passed false past size = onward (6 + size) past
 
 -- Per record: 46 order, 45 cells past M, 10.
-abbrev pub payloadCourse : ℕ → Past → Kind → List ℕ → ℕ → Course
-payloadCourse m past kind payload size =
+abbrev pub payloadFate : ℕ → Past → Kind → List ℕ → ℕ → Fate
+payloadFate m past kind payload size =
     cond (not (inOrder past kind payload)) (refused 46)
     (cond (not (withinOf m kind payload)) (refused 45)
-    (cond (not (settledIn kind payload)) (refused 10)
+    (cond (not (settingsFit kind payload)) (refused 10)
     (passed (endsOf kind) (pastOf past kind payload) size)))
 
 -- Before these: 41 fewer than 6 bytes left, 42 unknown kind, 43 wrong length, 44 payload cut.
-unfoldable pub courseOf : ℕ → Past → List ℕ → Course
-courseOf m past left =
+unfoldable pub fateOf : ℕ → Past → List ℕ → Fate
+fateOf m past left =
     cond (ltb (length left) 6) (refused 41)
     (cond (not (knownOf (kindOf left))) (refused 42)
     (cond (not (fitsOf (kindOf left) (sizeOf left))) (refused 43)
     (cond (ltb (length left) (6 + sizeOf left)) (refused 44)
-    (payloadCourse m past (kindOf left) (payloadOf left) (sizeOf left)))))
+    (payloadFate m past (kindOf left) (payloadOf left) (sizeOf left)))))
 
 -- Refusals carry the record's offset.
-pub record Said : Type 0 where
+pub record Notice : Type 0 where
   pub number : ℕ
   pub offset : ℕ
 
-abbrev pub refusedAt : ℕ → ℕ → Option Said
+abbrev pub refusedAt : ℕ → ℕ → Option Notice
 refusedAt number offset = some (record { number = number; offset = offset })
 
 -- 47: bytes after kind 4, at the first.
-abbrev pub endOf : ℕ → ℕ → Option Said
+abbrev pub endOf : ℕ → ℕ → Option Notice
 endOf zero offset = none
 endOf (suc more) offset = refusedAt 47 offset
 
-abbrev pub followed : (List ℕ → ℕ → Past → Option Said) → Course → List ℕ → ℕ → Option Said
+abbrev pub followed : (List ℕ → ℕ → Past → Option Notice) → Fate → List ℕ → ℕ → Option Notice
 followed rest (refused number) left offset = refusedAt number offset
 followed rest last left offset = endOf (length left - 6) (offset + 6)
 followed rest (onward size past) left offset = rest (drop size left) (offset + size) past
 
 -- The first refusal of the records left, from an offset on, or none. A record has at least 6 bytes, so no job has as many records as
 -- it has bytes: the first number only says that the walk ends.
-unfoldable pub refusalFrom : ℕ → ℕ → List ℕ → ℕ → Past → Option Said
+unfoldable pub refusalFrom : ℕ → ℕ → List ℕ → ℕ → Past → Option Notice
 refusalFrom zero m left offset past = refusedAt 41 offset
-refusalFrom (suc n) m left offset past = followed (refusalFrom n m) (courseOf m past left) left offset
+refusalFrom (suc n) m left offset past = followed (refusalFrom n m) (fateOf m past left) left offset
 
 -- What a job's records make: registers, settings and cells.
 pub record Content : Type 0 where
@@ -204,7 +204,7 @@ pub record Content : Type 0 where
 
 abbrev pub contentOf : Kind → List ℕ → Content → Content
 contentOf Run payload c = record { regs = c .regs; settings = c .settings; cells = sets (c .cells) (baseOf payload) (cellsIn payload) }
-contentOf Register payload c = record { regs = set (c .regs) (registerOf payload) (valueOf payload); settings = c .settings; cells = c .cells }
+contentOf Register payload c = record { regs = set (c .regs) (registerOf payload) (registerValue payload); settings = c .settings; cells = c .cells }
 contentOf Setup payload c = record { regs = c .regs; settings = settingsIn payload; cells = c .cells }
 contentOf End payload c = c
 contentOf Other payload c = c
@@ -224,15 +224,15 @@ unnamed m = record { regs = replicate 256 0; settings = freshSettings; cells = r
 pub record Load : Type 0 where
   pub machine : Machine
   pub cells : List ℕ
-  pub said : Said
+  pub said : Notice
 
-abbrev pub saidOf : Answer → Said
-saidOf Done = record { number = 0; offset = 0 }
-saidOf (Refused why offset) = record { number = numberOf why; offset = offset }
+abbrev pub noticeOf : Answer → Notice
+noticeOf Done = record { number = 0; offset = 0 }
+noticeOf (Refused why offset) = record { number = numberOf why; offset = offset }
 
 -- a load's answer with the cells that it left, as such
 abbrev pub loadWith : Loaded → List ℕ → Load
-loadWith r cells = record { machine = r .machine; cells = cells; said = saidOf (r .answer) }
+loadWith r cells = record { machine = r .machine; cells = cells; said = noticeOf (r .answer) }
 
 abbrev pub loadedWith : Content → Load
 loadedWith c = record {
@@ -242,12 +242,12 @@ loadedWith c = record {
 }
 
 -- A refused load writes no cell and answers a fresh machine.
-abbrev pub loadedBy : Option Said → List ℕ → List ℕ → Load
+abbrev pub loadedBy : Option Notice → List ℕ → List ℕ → Load
 loadedBy (some said) job cells = record { machine = freshMachine; cells = cells; said = said }
 loadedBy none job cells = loadedWith (contentFrom (length job) job (unnamed (length cells)))
 
 -- First 12, at 0.
-unfoldable pub refusalIn : ℕ → List ℕ → Option Said
+unfoldable pub refusalIn : ℕ → List ℕ → Option Notice
 refusalIn m job = cond (badCells m) (refusedAt 12 0) (refusalFrom (length job) m job 0 nothingYet)
 
 abbrev pub loadOf : List ℕ → List ℕ → Load

@@ -7,7 +7,7 @@ mod reading;
 mod records;
 
 use machine::Machine;
-use machine::enough_cells;
+use machine::good_cells;
 use reading::carry_out;
 use reading::clear;
 use reading::examine;
@@ -29,7 +29,7 @@ pub struct Loaded {
 pub fn load(job: &[u8], cells: &mut [u32]) -> Loaded
     ensures { λ r. ⌜ loadWith r (now (cells .exit)) ≡ loadOf (now (job .entry)) (now (cells .entry)) ⌝ }
 {
-    if !enough_cells(cells.len()) {
+    if !good_cells(cells.len()) {
         return Loaded {
             machine: Machine::fresh(),
             answer: Answer::Refused {

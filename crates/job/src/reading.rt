@@ -6,7 +6,7 @@ ghost use Prim.Native.Nat.{_+_, _*_, _≤_};
 ghost use lib.ListN.{length, set, replicate};
 ghost use lib.Seq.{sets};
 ghost use Rattle.machine.specs.State.{freshSettings};
-ghost use Rattle.job.specs.Job.{fitsOf, registerOf, valueOf, nothingYet, courseOf, payloadCourse, refusalFrom, baseOf, cellsIn, wordsOf, contentOf, contentFrom};
+ghost use Rattle.job.specs.Job.{fitsOf, registerOf, registerValue, nothingYet, fateOf, payloadFate, refusalFrom, baseOf, cellsIn, wordsOf, contentOf, contentFrom};
 ghost use Rattle.job.specs.Inner.{lookedOf, refusalOf, contentWith, Sound};
 use crate::Answer;
 use crate::little::number;
@@ -34,7 +34,7 @@ pub(crate) enum Look {
 // A record's payload: 46, 45, 10.
 fn look_in(m: usize, past: Past, kind: Kind, payload: &[u8]) -> Look
     requires { ⌜ fitsOf kind (length (now payload)) ≡ true ⌝ }
-    ensures { λ r. ⌜ lookedOf r ≡ payloadCourse m past kind (now (payload .entry)) (length (now (payload .entry))) ⌝ }
+    ensures { λ r. ⌜ lookedOf r ≡ payloadFate m past kind (now (payload .entry)) (length (now (payload .entry))) ⌝ }
 {
     if !in_order(past, kind, payload) {
         return Look::Bad(Refusal::Order);
@@ -56,7 +56,7 @@ fn look_in(m: usize, past: Past, kind: Kind, payload: &[u8]) -> Look
 
 // A record where it begins: 41, 42, 43, 44, and then its payload.
 fn look_at(m: usize, past: Past, left: &[u8]) -> Look
-    ensures { λ r. ⌜ lookedOf r ≡ courseOf m past (now (left .entry)) ⌝ }
+    ensures { λ r. ⌜ lookedOf r ≡ fateOf m past (now (left .entry)) ⌝ }
 {
     if left.len() < 6 {
         return Look::Bad(Refusal::Short);
@@ -147,14 +147,14 @@ fn put_run(cells: &mut [u32], payload: &[u8])
 // A register's value.
 fn put_value(regs: &mut [u32; 256], payload: &[u8])
     requires { ⌜ length (now payload) ≡ 5 ⌝ }
-    ensures { λ r. ⌜ now (regs .exit) ≡ set (now (regs .entry)) (registerOf (now (payload .entry))) (valueOf (now (payload .entry))) ⌝ }
+    ensures { λ r. ⌜ now (regs .exit) ≡ set (now (regs .entry)) (registerOf (now (payload .entry))) (registerValue (now (payload .entry))) ⌝ }
 {
     let i = number(payload, 0, 1) as usize;
     regs[i] = number(payload, 1, 4);
 }
 
 // One record carried out. It answers the settings.
-fn carry(
+fn apply(
     kind: Kind,
     payload: &[u8],
     regs: &mut [u32; 256],
@@ -199,7 +199,7 @@ pub(crate) fn carry_out(job: &[u8], regs: &mut [u32; 256], cells: &mut [u32]) ->
             return settings;
         }
         let end = 6 + number(left, 0, 4) as usize;
-        settings = carry(kind, &left[6..end], regs, settings, cells);
+        settings = apply(kind, &left[6..end], regs, settings, cells);
         at = at + end;
     }
 }

@@ -3,10 +3,10 @@ ghost use mathlib.Core.Path.{_≡_};
 ghost use mathlib.Core.Bool.{true};
 ghost use Prim.Native.Nat.{_≤_, _+_, _<_};
 ghost use lib.ListN.{length};
-ghost use Rattle.job.specs.Job.{kindBy, knownOf, fitsOf, endsOf, rankOf, pastOf, inOrder, risesOf, baseOf, countOf, withinOf, settledIn, settingsIn};
+ghost use Rattle.job.specs.Job.{kindBy, knownOf, fitsOf, endsOf, rankOf, pastOf, inOrder, risesOf, baseOf, countOf, withinOf, settingsFit, settingsIn};
 use crate::little::number;
 use machine::Settings;
-use machine::in_range;
+use machine::good_settings;
 
 // A record's kind: 1 to 4, or any other.
 pub(crate) enum Kind {
@@ -161,12 +161,12 @@ pub(crate) fn settings_in(payload: &[u8]) -> Settings
 // Whether a record's settings are in range.
 pub(crate) fn settled(kind: Kind, payload: &[u8]) -> bool
     requires { ⌜ fitsOf kind (length (now payload)) ≡ true ⌝ }
-    ensures { λ r. ⌜ r ≡ settledIn kind (now (payload .entry)) ⌝ }
+    ensures { λ r. ⌜ r ≡ settingsFit kind (now (payload .entry)) ⌝ }
 {
     match kind {
         Kind::Run => true,
         Kind::Register => true,
-        Kind::Setup => in_range(settings_in(payload)),
+        Kind::Setup => good_settings(settings_in(payload)),
         Kind::End => true,
         Kind::Other => true,
     }

@@ -7,8 +7,8 @@ ghost use Rattle.machine.specs.declared.Settings.{Settings};
 ghost use Rattle.machine.specs.State.{stateWith};
 ghost use Rattle.journal.specs.Journal.{packedOf, usesA, usesB, usesStore, damagedOf, regsBefore, takenBack, returnedOf};
 use machine::Settings;
-use machine::keep;
-use machine::put;
+use machine::write_cell;
+use machine::write_register;
 
 // Word 1 is flags + 512 mask + 2^18 mode, and of an entry below 2^20.
 const MODE_UNIT: u32 = Settings::FLAGS_BOUND * Settings::FLAGS_BOUND;
@@ -75,8 +75,8 @@ fn restore_regs(regs: &mut [u32; 256], w: [u32; 8])
     requires { ⌜ getD w 2 0 < 65536 ⌝ }
     ensures { λ r. ⌜ now (regs .exit) ≡ regsBefore w (now (regs .entry)) ⌝ }
 {
-    put(regs, uses_a(w[7]), (w[2] % 256) as u8, w[3]);
-    put(regs, uses_b(w[7]), (w[2] / 256) as u8, w[4]);
+    write_register(regs, uses_a(w[7]), (w[2] % 256) as u8, w[3]);
+    write_register(regs, uses_b(w[7]), (w[2] / 256) as u8, w[4]);
     regs[255] = w[0];
 }
 
@@ -94,7 +94,7 @@ pub fn take_back(regs: &mut [u32; 256], cells: &mut [u32], w: [u32; 8]) -> Retur
     if is_damaged(cells.len(), w) {
         return Returned::Damaged;
     }
-    keep(cells, uses_store(w[7]), w[5], w[6]);
+    write_cell(cells, uses_store(w[7]), w[5], w[6]);
     restore_regs(regs, w);
     Returned::Back(Settings {
         flags: w[1] % Settings::FLAGS_BOUND,

@@ -98,7 +98,7 @@ impl Stop {
 }
 
 // Whether M is 1 to 16,384.
-pub fn enough_cells(m: usize) -> bool
+pub fn good_cells(m: usize) -> bool
     ensures { λ r. ⌜ r ≡ not (badCells m) ⌝ }
 {
     if m == 0 {
@@ -111,7 +111,7 @@ pub fn enough_cells(m: usize) -> bool
 }
 
 // Whether settings are in range.
-pub fn in_range(s: Settings) -> bool
+pub fn good_settings(s: Settings) -> bool
     ensures { λ r. ⌜ r ≡ not (badSettings s) ⌝ }
 {
     if Settings::FLAGS_BOUND <= s.flags {
@@ -139,7 +139,7 @@ pub fn capacity(words: usize) -> u32
 }
 
 // A register write that is made if it is used.
-pub fn put(regs: &mut [u32; 256], used: bool, number: u8, value: u32)
+pub fn write_register(regs: &mut [u32; 256], used: bool, number: u8, value: u32)
     ensures { λ r. ⌜ now (regs .exit) ≡ writeIf used (now (regs .entry)) number value ⌝ }
 {
     if used {
@@ -149,7 +149,7 @@ pub fn put(regs: &mut [u32; 256], used: bool, number: u8, value: u32)
 }
 
 // The same for a cell; past the cells there is none.
-pub fn keep(cells: &mut [u32], used: bool, address: u32, value: u32)
+pub fn write_cell(cells: &mut [u32], used: bool, address: u32, value: u32)
     ensures { λ r. ⌜ now (cells .exit) ≡ writeIf used (now (cells .entry)) address value ⌝ }
 {
     if used {

@@ -12,16 +12,16 @@ use Rattle.effect.specs.Effect.{effectOf}
 use Rattle.effect.specs.Refusal.{refusedBy}
 use Rattle.machine.specs.State.{freshMachine, entriesIn, capacityOf}
 use Rattle.journal.specs.Journal.{regsAfter, cellsAfter, settingsAfter, entryOf}
-use Rattle.turn.specs.Step.{refusalOf, effectIn, courseOf, stepOf}
+use Rattle.step.specs.Step.{refusalOf, effectIn, courseOf, stepOf}
 use Rattle.runner.specs.Calls.{runFrom, checkOf}
-use Rattle.job.specs.Job.{littleOf, numberAt, kindBy, wordsOf, inOrder, courseOf as recordOf, refusalFrom, contentFrom, refusalIn}
+use Rattle.job.specs.Job.{littleOf, numberAt, kindBy, wordsOf, inOrder, fateOf, refusalFrom, contentFrom, refusalIn}
 use Rattle.outcome.specs.Outcome.{registersText, ranText, outcomeOf, textOf}
 use Rattle.outcome.specs.Printed.{printedJob}
 
 pub empty-input : textOf [] ≡ bytes "refused 41 at 0\n"
-unfolding digits decimal recordOf refusalFrom refusalIn outcomeOf textOf
+unfolding digits decimal fateOf refusalFrom refusalIn outcomeOf textOf
 empty-input = refl
 
 pub printed-job : textOf printedJob ≡ bytes "exit 1 steps 3 pc 4294901763 flags 256\nR1 5\n"
-unfolding seOf exOf writtenOf opOf askedOf legal immediate formOf decodeOf digits decimal actionOf operandOf behind flagsOf effectOf refusedBy capacityOf entriesIn freshMachine regsAfter cellsAfter settingsAfter entryOf refusalOf effectIn courseOf stepOf runFrom checkOf littleOf numberAt kindBy wordsOf inOrder recordOf refusalFrom contentFrom refusalIn registersText ranText outcomeOf textOf printedJob
+unfolding seOf exOf writtenOf opOf askedOf legal immediate formOf decodeOf digits decimal actionOf operandOf behind flagsOf effectOf refusedBy capacityOf entriesIn freshMachine regsAfter cellsAfter settingsAfter entryOf refusalOf effectIn courseOf stepOf runFrom checkOf littleOf numberAt kindBy wordsOf inOrder fateOf refusalFrom contentFrom refusalIn registersText ranText outcomeOf textOf printedJob
 printed-job = refl

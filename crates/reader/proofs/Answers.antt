@@ -12,7 +12,7 @@ use Rattle.cell.specs.declared.Form.the-variants as form
 use Rattle.cell.specs.declared.Instruction.{Instruction}
 use Rattle.cell.specs.declared.Instruction.the-variants.{Registers, Immediate, Reserved}
 use Rattle.cell.specs.declared.Operands.the-variants as operands
-use Rattle.cell.specs.Cell.{Said, formOf, opcodeOf, legal, immediate, decodeOf, encodeOf}
+use Rattle.cell.specs.Cell.{Reply, formOf, opcodeOf, legal, immediate, decodeOf, encodeOf}
 use Rattle.cell.proofs.RoundTrip.{made, encode-registers, encode-immediate, decode-registers, decode-immediate, reserved-whole}
 use Rattle.cell.proofs.Fields.{InRange, decoded-in-range}
 use Rattle.reader.specs.declared.ReadLine.{ReadLine}
@@ -21,7 +21,7 @@ use Rattle.text.specs.Text.{bytes, decimal}
 use Rattle.mnemonic.specs.Mnemonic.{wordOf}
 use Rattle.line.specs.Line.{spelled, lineOf}
 use Rattle.line.proofs.Sizes.{line-spelled}
-use Rattle.reader.specs.Reader.{saidOf, Reads}
+use Rattle.reader.specs.Reader.{readReply, Reads}
 use Rattle.reader.specs.Reading.{Taken, taken, missing, numberOf, fieldOf, wordFrom, ended, refused, finished, onTaken, registersOf, immediateOf, reservedOf, cellOf, restOf, readOf}
 use Rattle.cell.proofs.Tests.{never, both-left, both-right}
 use Rattle.reader.proofs.Numbers.{number-back, number-true, field-back, field-true}
@@ -113,15 +113,15 @@ module _ (c : ℕ) (h : c < 2 ^ 32) where
 
 -- what is read was printed
 not-made : {P : Type 0} {c : ℕ} → refused ≡ made c → P
-not-made e = let z : _≡_ {A = ℕ} 30 0 = ap (λ (s : Said). s .number) e in absurd (omega arith)
+not-made e = let z : _≡_ {A = ℕ} 30 0 = ap (λ (s : Reply). s .number) e in absurd (omega arith)
 
-record Opened (o : Taken) (f : ℕ → List ℕ → Said) (c : ℕ) : Type 0 where
+record Opened (o : Taken) (f : ℕ → List ℕ → Reply) (c : ℕ) : Type 0 where
   value : ℕ
   rest : List ℕ
   is : o ≡ taken value rest
   then : f value rest ≡ made c
 
-opened : (o : Taken) (f : ℕ → List ℕ → Said) {c : ℕ} → onTaken o f ≡ made c → Opened o f c
+opened : (o : Taken) (f : ℕ → List ℕ → Reply) {c : ℕ} → onTaken o f ≡ made c → Opened o f c
 opened (taken v t) f e = record { value = v; rest = t; is = refl; then = e }
 opened missing f e = not-made e
 
@@ -132,17 +132,17 @@ ended-true (b ∷ (a ∷ s)) e =
     let n : length (b ∷ (a ∷ s)) ≡ 1 = eqb-true (length (b ∷ (a ∷ s))) 1 (both-left (eqb (length (b ∷ (a ∷ s))) 1) (eqb (getD (b ∷ (a ∷ s)) 0 0) 10) e) in
     absurd (omega arith)
 
-finished-tested : (a : Said) (s : List ℕ) {c : ℕ} (b : Bool) → eqb (a .number) 0 && ended s ≡ b → cond b a refused ≡ made c → (a ≡ made c) × (s ≡ bytes "\n")
+finished-tested : (a : Reply) (s : List ℕ) {c : ℕ} (b : Bool) → eqb (a .number) 0 && ended s ≡ b → cond b a refused ≡ made c → (a ≡ made c) × (s ≡ bytes "\n")
 finished-tested a s true e r = (r, ended-true s (both-right (eqb (a .number) 0) (ended s) e))
 finished-tested a s false e r = not-made r
 
-finished-true : (a : Said) (s : List ℕ) {c : ℕ} → finished a s ≡ made c → (a ≡ made c) × (s ≡ bytes "\n")
+finished-true : (a : Reply) (s : List ℕ) {c : ℕ} → finished a s ≡ made c → (a ≡ made c) × (s ≡ bytes "\n")
 finished-true a s r = finished-tested a s (eqb (a .number) 0 && ended s) refl r
 
 reserved-true : (f : Form) (v : ℕ) {c : ℕ} → reservedOf f v ≡ made c → (f ≡ form.Reserved) × (v ≡ c)
 reserved-true form.Registers v e = not-made e
 reserved-true form.Immediate v e = not-made e
-reserved-true form.Reserved v e = (refl, ap (λ (s : Said). s .cell) e)
+reserved-true form.Reserved v e = (refl, ap (λ (s : Reply). s .cell) e)
 
 reserved-decoded : (c : ℕ) → formOf (opcodeOf c) ≡ form.Reserved → decodeOf c ≡ Reserved c
 unfolding decodeOf
@@ -198,7 +198,7 @@ read-true s {c} e =
     (t .0 ∙ r .0, r .1)
 
 -- an answer that is as `readOf` has it is as promised
-pub stated : (s : List ℕ) (r : ReadLine) → saidOf r ≡ readOf s → Reads s (saidOf r)
+pub stated : (s : List ℕ) (r : ReadLine) → readReply r ≡ readOf s → Reads s (readReply r)
 stated s (Cell d) e =
     let t : (s ≡ lineOf d) × (d < 2 ^ 32) = read-true s (sym e) in
     record {

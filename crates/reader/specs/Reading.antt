@@ -8,7 +8,7 @@ use lib.ListN.{length, drop, getD}
 use Rattle.cell.specs.declared.Form.{Form}
 use Rattle.cell.specs.declared.Form.the-variants as form
 use Rattle.cell.specs.declared.Operands.the-variants as operands
-use Rattle.cell.specs.Cell.{Said, formOf, encodeOf, opcodeOf, within}
+use Rattle.cell.specs.Cell.{Reply, formOf, encodeOf, opcodeOf, within}
 use Rattle.reader.specs.declared.Part.{Part}
 use Rattle.reader.specs.declared.Part.the-variants.{Value, Missing}
 use Rattle.text.specs.Text.{bytes}
@@ -60,42 +60,42 @@ wordFrom (suc n) x s = cond (begins (wordOf x) s) (taken x (drop (length (wordOf
 abbrev pub ended : List ℕ → Bool
 ended s = eqb (length s) 1 && eqb (getD s 0 0) 10
 
-abbrev pub refused : Said
+abbrev pub refused : Reply
 refused = record { number = 30; cell = 0 }
 
 -- what was encoded is the answer, if it is a cell and the text ends there
-abbrev pub finished : Said → List ℕ → Said
+abbrev pub finished : Reply → List ℕ → Reply
 finished said s = cond (eqb (said .number) 0 && ended s) said refused
 
 -- each field's answer is taken apart, or the text is refused
-abbrev pub onTaken : Taken → (ℕ → List ℕ → Said) → Said
+abbrev pub onTaken : Taken → (ℕ → List ℕ → Reply) → Reply
 onTaken (taken v s) f = f v s
 onTaken missing f = refused
 
-unfoldable pub registersOf : ℕ → List ℕ → Said
+unfoldable pub registersOf : ℕ → List ℕ → Reply
 registersOf x s =
     onTaken (fieldOf (bytes "R") 255 s) (λ n s₁.
     onTaken (fieldOf (bytes ", R") 255 s₁) (λ m s₂.
     onTaken (fieldOf (bytes ", R") 255 s₂) (λ l s₃. finished (encodeOf x (operands.Registers n m l)) s₃)))
 
-unfoldable pub immediateOf : ℕ → List ℕ → Said
+unfoldable pub immediateOf : ℕ → List ℕ → Reply
 immediateOf x s =
     onTaken (fieldOf (bytes "R") 255 s) (λ n s₁.
     onTaken (fieldOf (bytes ", #") 65535 s₁) (λ i s₂. finished (encodeOf x (operands.Immediate n i)) s₂))
 
 -- a cell stands as its number only if it is reserved
-abbrev pub reservedOf : Form → ℕ → Said
+abbrev pub reservedOf : Form → ℕ → Reply
 reservedOf form.Registers c = refused
 reservedOf form.Immediate c = refused
 reservedOf form.Reserved c = record { number = 0; cell = c }
 
-unfoldable pub cellOf : List ℕ → Said
+unfoldable pub cellOf : List ℕ → Reply
 cellOf s = onTaken (numberOf 4294967295 s) (λ c s₁. finished (reservedOf (formOf (opcodeOf c)) c) s₁)
 
-abbrev pub restOf : Form → ℕ → List ℕ → Said
+abbrev pub restOf : Form → ℕ → List ℕ → Reply
 restOf form.Registers x s = registersOf x s
 restOf form.Immediate x s = immediateOf x s
 restOf form.Reserved x s = cellOf s
 
-unfoldable pub readOf : List ℕ → Said
+unfoldable pub readOf : List ℕ → Reply
 readOf s = onTaken (wordFrom 123 0 s) (λ x s₁. restOf (formOf x) x s₁)

@@ -3,10 +3,10 @@ ghost use mathlib.Core.Path.{_≡_};
 ghost use mathlib.Core.List.{List};
 ghost use Prim.Native.Nat.{ℕ};
 ghost use lib.ListN.{drop};
-ghost use Rattle.reader.specs.Reader.{saidOf, Reads};
+ghost use Rattle.reader.specs.Reader.{readReply, Reads};
 ghost use Rattle.reader.specs.Reading.{seen, digit, grows, atMost, numberOf, fieldOf, wordFrom, ended, finished, registersOf, immediateOf, cellOf};
 ghost use Rattle.mnemonic.specs.Inner.{begins};
-ghost use Rattle.cell.specs.Cell.{saidOf as encodedOf};
+ghost use Rattle.cell.specs.Cell.{encodedReply};
 use cell::Encoded;
 use cell::Form;
 use cell::Operands;
@@ -138,7 +138,7 @@ fn ends(text: &[u8], at: usize) -> bool
 
 // The cell that was encoded, if the text ends there.
 fn finish(text: &[u8], at: usize, encoded: Encoded) -> ReadLine
-    ensures { λ r. ⌜ saidOf r ≡ finished (encodedOf encoded) (drop at (now (text .entry))) ⌝ }
+    ensures { λ r. ⌜ readReply r ≡ finished (encodedReply encoded) (drop at (now (text .entry))) ⌝ }
 {
     match encoded {
         Encoded::Cell(cell) => {
@@ -155,7 +155,7 @@ fn finish(text: &[u8], at: usize, encoded: Encoded) -> ReadLine
 
 // The operands of three registers, after the word of an opcode.
 fn read_registers(text: &[u8], at: usize, opcode: u8) -> ReadLine
-    ensures { λ r. ⌜ saidOf r ≡ registersOf opcode (drop at (now (text .entry))) ⌝ }
+    ensures { λ r. ⌜ readReply r ≡ registersOf opcode (drop at (now (text .entry))) ⌝ }
 {
     let Part::Value { value: n, next: a } = field(text, at, b"R", 255) else {
         return ReadLine::NoLine;
@@ -175,7 +175,7 @@ fn read_registers(text: &[u8], at: usize, opcode: u8) -> ReadLine
 
 // The operands of a register and an immediate, after the word of an opcode.
 fn read_immediate(text: &[u8], at: usize, opcode: u8) -> ReadLine
-    ensures { λ r. ⌜ saidOf r ≡ immediateOf opcode (drop at (now (text .entry))) ⌝ }
+    ensures { λ r. ⌜ readReply r ≡ immediateOf opcode (drop at (now (text .entry))) ⌝ }
 {
     let Part::Value { value: n, next: a } = field(text, at, b"R", 255) else {
         return ReadLine::NoLine;
@@ -195,7 +195,7 @@ fn read_immediate(text: &[u8], at: usize, opcode: u8) -> ReadLine
 
 // The number of a reserved cell, after CELL.
 fn read_cell(text: &[u8], at: usize) -> ReadLine
-    ensures { λ r. ⌜ saidOf r ≡ cellOf (drop at (now (text .entry))) ⌝ }
+    ensures { λ r. ⌜ readReply r ≡ cellOf (drop at (now (text .entry))) ⌝ }
 {
     let Part::Value { value, next } = number(text, at, 4294967295) else {
         return ReadLine::NoLine;
@@ -210,7 +210,7 @@ fn read_cell(text: &[u8], at: usize) -> ReadLine
 
 // Reads a cell's printed line.
 pub fn read(text: &[u8]) -> ReadLine
-    ensures { λ r. ⌜ Reads (now (text .entry)) (saidOf r) ⌝ }
+    ensures { λ r. ⌜ Reads (now (text .entry)) (readReply r) ⌝ }
 {
     let Part::Value { value, next } = word(text) else {
         return ReadLine::NoLine;

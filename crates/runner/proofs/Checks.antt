@@ -16,7 +16,7 @@ use Rattle.runner.specs.Calls.{Out, stopAt, checkOf, called, callOf}
 use Rattle.runner.specs.declared.Checked.{Checked}
 use Rattle.runner.specs.Inner.{saidBy, checkedOf}
 use Rattle.machine.proofs.Tests.{or-left, or-right}
-use Rattle.turn.proofs.Keeps.{past}
+use Rattle.step.proofs.Keeps.{past}
 
 none-said : (o : Option ℕ) → saidBy o ≡ none → o ≡ none
 none-said none h = refl

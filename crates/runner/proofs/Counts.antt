@@ -15,7 +15,7 @@ use Rattle.effect.specs.declared.Answer.the-variants.{Onward, Interrupt}
 use Rattle.machine.specs.State.{State, capacityOf}
 use Rattle.journal.specs.Journal.{endedOf, regsAfter, lastOf, damagedOf, undoOf}
 use Rattle.machine.specs.Stops.{Said, plainly}
-use Rattle.turn.specs.Step.{Course, going, stopped, refused, trapsOf, answered, courseOf, effectIn, moved, refusalOf, stepOf}
+use Rattle.step.specs.Step.{Course, going, stopped, refused, trapsOf, answered, courseOf, effectIn, moved, refusalOf, stepOf}
 use Rattle.runner.specs.Calls.{Out, stopAt, onward, runFrom, backFrom, checkOf, called, runOf, backOf}
 
 -- how many steps a course did

@@ -7,7 +7,7 @@ use native.Mathlib.Omega.{arith}
 use lib.ListN.{length}
 use Rattle.machine.specs.State.{State}
 use Rattle.machine.specs.Stops.{Said, plainly}
-use Rattle.turn.specs.Step.{Course, going, stopped, refused, Moved, stepOf}
+use Rattle.step.specs.Step.{Course, going, stopped, refused, Moved, stepOf}
 use Rattle.runner.specs.Calls.{stopAt, onward, runFrom}
 
 -- one of what is left

@@ -10,7 +10,7 @@ use Rattle.runner.specs.declared.Ran.{Ran}
 use Rattle.machine.specs.State.{State, stateOf, capacityOf, badCells, badSettings}
 use Rattle.journal.specs.Journal.{lastOf, damagedOf, undoOf}
 use Rattle.machine.specs.Stops.{saidOf, Said, plainly}
-use Rattle.turn.specs.Step.{Course, going, stopped, refused, stepOf}
+use Rattle.step.specs.Step.{Course, going, stopped, refused, stepOf}
 
 -- All that a call leaves: machine, cells and journal, what it says, and the count done. A call's answer with the cells and journal
 -- that it left, as such.

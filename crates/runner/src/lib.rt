@@ -12,10 +12,10 @@ use machine::Machine;
 use machine::Settings;
 use machine::Stop;
 use machine::capacity;
-use machine::enough_cells;
-use machine::in_range;
-use turn::Verdict;
-use turn::advance;
+use machine::good_cells;
+use machine::good_settings;
+use step::Verdict;
+use step::advance;
 
 // What a call leaves beside cells and journal.
 pub struct Ran {
@@ -34,10 +34,10 @@ enum Checked {
 fn check(size: usize, s: Settings, most: u32, depth: u32) -> Checked
     ensures { λ r. ⌜ checkedOf r ≡ saidBy (checkOf size s most depth) ⌝ }
 {
-    if !enough_cells(size) {
+    if !good_cells(size) {
         return Checked::Bad(Stop::Cells);
     }
-    if !in_range(s) {
+    if !good_settings(s) {
         return Checked::Bad(Stop::Unsettled);
     }
     if most < depth {

@@ -16,7 +16,7 @@ use Rattle.machine.proofs.Tests.{picked}
 use Rattle.text.proofs.Adds.{sets-append}
 use Rattle.machine.specs.State.{mostCells}
 use Rattle.job.specs.Job.{bytesOf}
-use Rattle.saver.specs.Saving.{recordOf, wordBytes, runOf, runsFrom, valueRecord, valuesFrom, freshOf, setupOf}
+use Rattle.saver.specs.Saving.{recordOf, wordBytes, runRecord, runsFrom, valueRecord, valuesFrom, freshOf, setupOf}
 use Rattle.saver.specs.Inner.{Stored, Fits, spanOf}
 use Rattle.job.proofs.Numbers.{length-bytes}
 
@@ -128,15 +128,15 @@ pub stored-record : (kind n : ℕ) (payload : List ℕ) {l m o : List ℕ} {at k
 unfolding recordOf
 stored-record kind n payload e s t = rw e (stored-then (bytesOf 4 n ++ bytesOf 2 kind) payload s t)
 
-pub run-record : (base : ℕ) (run : List ℕ) → (length run ≡ 0 → ⊥) → runOf base run ≡ recordOf 1 (bytesOf 2 base ++ wordBytes run)
-unfolding runOf
+pub run-record : (base : ℕ) (run : List ℕ) → (length run ≡ 0 → ⊥) → runRecord base run ≡ recordOf 1 (bytesOf 2 base ++ wordBytes run)
+unfolding runRecord
 run-record base [] h = absurd (h refl)
 run-record base (v ∷ run) h = refl
 
 pub run-payload : (base : ℕ) (run : List ℕ) → length (bytesOf 2 base ++ wordBytes run) ≡ 2 + 4 * length run
 run-payload base run = length-append (bytesOf 2 base) (wordBytes run) ∙ rw (length-bytes 2 base, length-word-bytes run)
 
-pub run-length : (base : ℕ) (run : List ℕ) → (length run ≡ 0 → ⊥) → length (runOf base run) ≡ 8 + 4 * length run
+pub run-length : (base : ℕ) (run : List ℕ) → (length run ≡ 0 → ⊥) → length (runRecord base run) ≡ 8 + 4 * length run
 run-length base run h = ap length (run-record base run h) ∙ length-record 1 (bytesOf 2 base ++ wordBytes run) ∙ rw (run-payload base run) (omega arith)
 
 -- the record of no payload is its head
@@ -144,21 +144,21 @@ pub stored-end : (kind : ℕ) {l m : List ℕ} {at k : ℕ} → Stored l at (byt
 unfolding recordOf
 stored-end kind s = rw append-nil s
 
-pub run-none : (base : ℕ) (run : List ℕ) → length run ≡ 0 → runOf base run ≡ []
-unfolding runOf
+pub run-none : (base : ℕ) (run : List ℕ) → length run ≡ 0 → runRecord base run ≡ []
+unfolding runRecord
 run-none base [] h = refl
 run-none base (v ∷ run) h = absurd (omega arith)
 
 -- the run that has begun goes on up to the next cell that is 0, and then the others follow
 pub runs-span : (cells run : List ℕ) (base : ℕ)
-    → runsFrom base run cells ≡ runOf base (run ++ take (spanOf cells) cells) ++ runsFrom (base + length run + spanOf cells + 1) [] (drop (spanOf cells + 1) cells)
-unfolding runsFrom spanOf runOf
-runs-span [] run base = rw (append-nil run, append-nil (runOf base run))
+    → runsFrom base run cells ≡ runRecord base (run ++ take (spanOf cells) cells) ++ runsFrom (base + length run + spanOf cells + 1) [] (drop (spanOf cells + 1) cells)
+unfolding runsFrom spanOf runRecord
+runs-span [] run base = rw (append-nil run, append-nil (runRecord base run))
 runs-span (v ∷ cells) run base = by (eqb v 0) (runs-span cells (run ++ v ∷ []) base)
   where
-    by : (t : Bool) → runsFrom base (run ++ v ∷ []) cells ≡ runOf base (run ++ v ∷ [] ++ take (spanOf cells) cells) ++ runsFrom (base + length (run ++ v ∷ []) + spanOf cells + 1) [] (drop (spanOf cells + 1) cells)
-        → cond t (runOf base run ++ runsFrom (base + length run + 1) [] cells) (runsFrom base (run ++ v ∷ []) cells)
-        ≡ runOf base (run ++ take (cond t 0 (suc (spanOf cells))) (v ∷ cells)) ++ runsFrom (base + length run + cond t 0 (suc (spanOf cells)) + 1) [] (drop (cond t 0 (suc (spanOf cells)) + 1) (v ∷ cells))
+    by : (t : Bool) → runsFrom base (run ++ v ∷ []) cells ≡ runRecord base (run ++ v ∷ [] ++ take (spanOf cells) cells) ++ runsFrom (base + length (run ++ v ∷ []) + spanOf cells + 1) [] (drop (spanOf cells + 1) cells)
+        → cond t (runRecord base run ++ runsFrom (base + length run + 1) [] cells) (runsFrom base (run ++ v ∷ []) cells)
+        ≡ runRecord base (run ++ take (cond t 0 (suc (spanOf cells))) (v ∷ cells)) ++ runsFrom (base + length run + cond t 0 (suc (spanOf cells)) + 1) [] (drop (cond t 0 (suc (spanOf cells)) + 1) (v ∷ cells))
     by true more = let n : base + length run + 0 + 1 ≡ base + length run + 1 = omega arith in rw (append-nil run, n)
     by false more =
         let n : base + (length run + 1) + spanOf cells + 1 ≡ base + length run + suc (spanOf cells) + 1 = omega arith in
@@ -166,7 +166,7 @@ runs-span (v ∷ cells) run base = by (eqb v 0) (runs-span cells (run ++ v ∷ [
         more ∙ rw (append-assoc run (v ∷ []) (take (spanOf cells) cells), length-append run (v ∷ []), n, d)
 
 pub runs-turn : (cells : List ℕ) (i end : ℕ) → end ≡ i + spanOf (drop i cells)
-    → Parts (runsFrom i [] (drop i cells)) (runOf i (take (end - i) (drop i cells))) (runsFrom (end + 1) [] (drop (end + 1) cells))
+    → Parts (runsFrom i [] (drop i cells)) (runRecord i (take (end - i) (drop i cells))) (runsFrom (end + 1) [] (drop (end + 1) cells))
 runs-turn cells i end e =
     let n : end - i ≡ spanOf (drop i cells) = omega arith in
     let b : i + 0 + spanOf (drop i cells) + 1 ≡ end + 1 = omega arith in
@@ -174,7 +174,7 @@ runs-turn cells i end e =
     record { parts = runs-span (drop i cells) [] i ∙ rw (drop-drop, n, b, d) }
 
 pub runs-over : (base : ℕ) (cells : List ℕ) (i : ℕ) → length cells ≤ i → runsFrom base [] (drop i cells) ≡ []
-unfolding runsFrom runOf
+unfolding runsFrom runRecord
 runs-over base cells i h = rw (drop-of-length-le cells {i = i} h)
 
 pub value-none : (i v : ℕ) → v ≡ 0 → valueRecord i v ≡ []
@@ -212,8 +212,8 @@ values-over regs i h = rw (drop-of-length-le regs {i = i} h)
 
 -- ---- how long they are at most
 
-run-short : (base : ℕ) (run : List ℕ) → length (runOf base run) ≤ 12 * length run
-unfolding runOf
+run-short : (base : ℕ) (run : List ℕ) → length (runRecord base run) ≤ 12 * length run
+unfolding runRecord
 run-short base [] = omega arith
 run-short base (v ∷ run) = omega (arith, run-length base (v ∷ run) (λ e. omega arith))
 
@@ -222,7 +222,7 @@ unfolding runsFrom
 runs-short [] run base = omega (arith, run-short base run)
 runs-short (v ∷ cells) run base =
     picked (λ (l : List ℕ). length l ≤ 12 * (length run + suc (length cells))) (eqb v 0) _ _
-    (λ t. omega (arith, length-append (runOf base run) (runsFrom (base + length run + 1) [] cells), run-short base run, runs-short cells [] (base + length run + 1)))
+    (λ t. omega (arith, length-append (runRecord base run) (runsFrom (base + length run + 1) [] cells), run-short base run, runs-short cells [] (base + length run + 1)))
     (λ t. omega (arith, length-append run (v ∷ []), runs-short cells (run ++ v ∷ []) base))
 
 value-short : (i v : ℕ) → length (valueRecord i v) ≤ 11

@@ -23,16 +23,16 @@ wordBytes [] = []
 wordBytes (v ∷ words) = bytesOf 4 v ++ wordBytes words
 
 -- Kind 1: base (2), then one or more cells. A run of no cell is no record.
-unfoldable pub runOf : ℕ → List ℕ → List ℕ
-runOf base [] = []
-runOf base (v ∷ run) = recordOf 1 (bytesOf 2 base ++ wordBytes (v ∷ run))
+unfoldable pub runRecord : ℕ → List ℕ → List ℕ
+runRecord base [] = []
+runRecord base (v ∷ run) = recordOf 1 (bytesOf 2 base ++ wordBytes (v ∷ run))
 
 -- Saving writes each maximal run of non-zero cells: the run that began at base goes on with a cell that is not 0, and is written at
 -- one that is 0 and at the last cell's end.
 unfoldable pub runsFrom : ℕ → List ℕ → List ℕ → List ℕ
-runsFrom base run [] = runOf base run
+runsFrom base run [] = runRecord base run
 runsFrom base run (v ∷ cells) =
-    cond (eqb v 0) (runOf base run ++ runsFrom (base + length run + 1) [] cells)
+    cond (eqb v 0) (runRecord base run ++ runsFrom (base + length run + 1) [] cells)
     (runsFrom base (run ++ v ∷ []) cells)
 
 -- Kind 2: register (1), value (4), of a register that is not 0.
@@ -68,8 +68,8 @@ saveWith (Unsaved why) room = record { room = room; number = numberOf why; lengt
 abbrev pub unsaved : ℕ → List ℕ → Save
 unsaved number room = record { room = room; number = number; length = 0 }
 
-abbrev pub storedOf : List ℕ → List ℕ → Save
-storedOf job room =
+abbrev pub writtenIn : List ℕ → List ℕ → Save
+writtenIn job room =
     cond (ltb (length room) (length job)) (unsaved 48 room)
     (record { room = sets room 0 job; number = 0; length = length job })
 
@@ -77,4 +77,4 @@ unfoldable pub saveOf : Machine → List ℕ → List ℕ → Save
 saveOf m cells room =
     cond (badCells (length cells)) (unsaved 12 room)
     (cond (badSettings (m .settings)) (unsaved 10 room)
-    (storedOf (savedOf m cells) room))
+    (writtenIn (savedOf m cells) room))

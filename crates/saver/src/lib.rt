@@ -6,8 +6,8 @@ mod little;
 mod writing;
 
 use machine::Machine;
-use machine::enough_cells;
-use machine::in_range;
+use machine::good_cells;
+use machine::good_settings;
 use refusal::Refusal;
 use writing::put_job;
 
@@ -22,10 +22,10 @@ pub enum Saved {
 pub fn save(machine: Machine, cells: &[u32], room: &mut [u8]) -> Saved
     ensures { λ r. ⌜ saveWith r (now (room .exit)) ≡ saveOf machine (now (cells .entry)) (now (room .entry)) ⌝ }
 {
-    if !enough_cells(cells.len()) {
+    if !good_cells(cells.len()) {
         return Saved::Unsaved(Refusal::Cells);
     }
-    if !in_range(machine.settings) {
+    if !good_settings(machine.settings) {
         return Saved::Unsaved(Refusal::Unsettled);
     }
     let size = put_job(&mut room[0..0], machine, cells);

@@ -6,7 +6,7 @@ ghost use Prim.Native.Nat.{_+_, _^_, _≤_, _<_};
 ghost use lib.ListN.{length, drop};
 ghost use Rattle.machine.specs.State.{mostCells};
 ghost use Rattle.job.specs.Job.{bytesOf};
-ghost use Rattle.saver.specs.Saving.{wordBytes, runOf, runsFrom, valueRecord, valuesFrom, freshOf, setupOf, savedOf};
+ghost use Rattle.saver.specs.Saving.{wordBytes, runRecord, runsFrom, valueRecord, valuesFrom, freshOf, setupOf, savedOf};
 ghost use Rattle.saver.specs.Inner.{Stored, Fits, spanOf};
 use crate::little::put;
 use machine::Machine;
@@ -37,8 +37,8 @@ fn put_words(room: &mut [u8], at: usize, words: &[u32]) -> usize
 
 // A run of cells with its base. A run of no cell is no record.
 fn put_run(room: &mut [u8], at: usize, base: usize, run: &[u32]) -> usize
-    requires { ⌜ (base ≤ mostCells) × (length (now run) ≤ mostCells) × Fits at (runOf base (now run)) ⌝ }
-    ensures { λ r. ⌜ Stored (now (room .entry)) at (runOf base (now (run .entry))) (now (room .exit)) r ⌝ }
+    requires { ⌜ (base ≤ mostCells) × (length (now run) ≤ mostCells) × Fits at (runRecord base (now run)) ⌝ }
+    ensures { λ r. ⌜ Stored (now (room .entry)) at (runRecord base (now (run .entry))) (now (room .exit)) r ⌝ }
 {
     if run.len() == 0 {
         return at;

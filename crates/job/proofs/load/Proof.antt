@@ -10,14 +10,14 @@ use Rattle.machine.proofs.Checks.{turned}
 use Rattle.job.proofs.load.Statement.{statement}
 use Rattle.job.proofs.load.Tie as tie
 
-enough-cells-requires : tie.Need-enough-cells-requires
-enough-cells-requires c κs = search needs
+good-cells-requires : tie.Need-good-cells-requires
+good-cells-requires c κs = search needs
 
 fresh-requires : tie.Need-fresh-requires
 fresh-requires c κs = search needs
 
 returns : tie.Need-returns
-returns c = load-few _ _ _ (c .fresh .ensures) (turned _ _ _ (c .before .before .enough-cells .ensures) (c .before .if1 .taken))
+returns c = load-few _ _ _ (c .fresh .ensures) (turned _ _ _ (c .before .before .good-cells .ensures) (c .before .if1 .taken))
 
 examine-requires : tie.Need-examine-requires
 examine-requires c κs = search needs
@@ -39,19 +39,19 @@ carry-out-requires c κs = let n : refusalFrom (length (c .before .before .befor
     rw (c .before .before .before .before .clear .ensures, length-replicate) n
 
 returns-2 : tie.Need-returns-2
-returns-2 c = load-refused _ _ _ _ _ _ (c .fresh2 .ensures) (turned _ _ _ (c .before .before .before .before .before .enough-cells .ensures) (c .before .before .before .before .if1 .left)) (c .before .enum-told .given .1) (c .before .before .before .examine .ensures)
+returns-2 c = load-refused _ _ _ _ _ _ (c .fresh2 .ensures) (turned _ _ _ (c .before .before .before .before .before .good-cells .ensures) (c .before .before .before .before .if1 .left)) (c .before .enum-told .given .1) (c .before .before .before .examine .ensures)
 
 same-length : tie.Need-same-length
 same-length c = search needs
 
 returns-3 : tie.Need-returns-3
-returns-3 c = load-done (c .before .before .before .before .before .before .before .before .before .before .before .before .before .before .before .before .args .job .now) (c .before .before .before .before .before .before .before .before .before .before .before .before .before .before .before .before .args .cells .now) _ (turned _ _ _ (c .before .before .before .before .before .before .before .before .before .before .before .before .before .enough-cells .ensures) (c .before .before .before .before .before .before .before .before .before .before .before .before .if1 .left)) (none-refused (c .before .before .before .before .before .before .before .before .before .before .before .before .before .before .before .before .args .job .now) (c .before .before .before .before .before .before .before .before .before .before .before .before .before .before .before .before .args .cells .now) _ (c .before .before .before .before .before .before .before .before .before .enum-told2 .given .1) (c .before .before .before .before .before .before .before .before .before .before .before .examine .ensures)) (rw (c .before .before .before .before .before .before .before .clear .ensures) at (c .before .before .carry-out .ensures))
+returns-3 c = load-done (c .before .before .before .before .before .before .before .before .before .before .before .before .before .before .before .before .args .job .now) (c .before .before .before .before .before .before .before .before .before .before .before .before .before .before .before .before .args .cells .now) _ (turned _ _ _ (c .before .before .before .before .before .before .before .before .before .before .before .before .before .good-cells .ensures) (c .before .before .before .before .before .before .before .before .before .before .before .before .if1 .left)) (none-refused (c .before .before .before .before .before .before .before .before .before .before .before .before .before .before .before .before .args .job .now) (c .before .before .before .before .before .before .before .before .before .before .before .before .before .before .before .before .args .cells .now) _ (c .before .before .before .before .before .before .before .before .before .enum-told2 .given .1) (c .before .before .before .before .before .before .before .before .before .before .before .examine .ensures)) (rw (c .before .before .before .before .before .before .before .clear .ensures) at (c .before .before .carry-out .ensures))
 
 pub load-spec : {M : Type 1} → statement M
 load-spec =
     tie.close
     (tie.spec
-    enough-cells-requires
+    good-cells-requires
     fresh-requires
     returns
     examine-requires

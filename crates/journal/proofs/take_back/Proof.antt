@@ -20,14 +20,14 @@ array-read-uses-store c = search needs
 uses-store-requires : tie.Need-uses-store-requires
 uses-store-requires c κs = search needs
 
-array-read-keep : tie.Need-array-read-keep
-array-read-keep c = search needs
+array-read-write-cell : tie.Need-array-read-write-cell
+array-read-write-cell c = search needs
 
-array-read-keep-2 : tie.Need-array-read-keep-2
-array-read-keep-2 c = search needs
+array-read-write-cell-2 : tie.Need-array-read-write-cell-2
+array-read-write-cell-2 c = search needs
 
-keep-requires : tie.Need-keep-requires
-keep-requires c κs = search needs
+write-cell-requires : tie.Need-write-cell-requires
+write-cell-requires c κs = search needs
 
 restore-regs-requires : tie.Need-restore-regs-requires
 restore-regs-requires c κs = packed _ _ (sym (c .before .before .before .before .before .before .before .is-damaged .ensures) ∙ c .before .before .before .before .before .before .if1 .left)
@@ -46,7 +46,7 @@ same-length c = search needs
 
 returns-2 : tie.Need-returns-2
 unfolding takenBack cellsBefore settingsBefore
-returns-2 c = λ s depth journal. rw (← c .before .before .before .before .before .before .before .before .is-damaged .ensures, c .before .before .before .before .before .before .before .if1 .left, c .restore-regs .ensures, c .before .before .before .before .keep .ensures, c .before .before .before .before .before .uses-store .ensures)
+returns-2 c = λ s depth journal. rw (← c .before .before .before .before .before .before .before .before .is-damaged .ensures, c .before .before .before .before .before .before .before .if1 .left, c .restore-regs .ensures, c .before .before .before .before .write-cell .ensures, c .before .before .before .before .before .uses-store .ensures)
 
 pub take-back-spec : {M : Type 1} → statement M
 take-back-spec =
@@ -56,9 +56,9 @@ take-back-spec =
     returns
     array-read-uses-store
     uses-store-requires
-    array-read-keep
-    array-read-keep-2
-    keep-requires
+    array-read-write-cell
+    array-read-write-cell-2
+    write-cell-requires
     restore-regs-requires
     array-read-t17
     array-read-t14

@@ -4,7 +4,7 @@ use native.Mathlib.Omega.{arith}
 use borrow.Author.Needs.{needs}
 use lib.Dec.{lit<}
 use lib.ListN.{drop}
-use Rattle.cell.specs.Cell.{Said, encodeOf}
+use Rattle.cell.specs.Cell.{Reply, encodeOf}
 use Rattle.cell.specs.declared.Operands.the-variants as operands
 use Rattle.text.specs.Text.{bytes}
 use Rattle.reader.specs.Reading.{seen, taken, missing, fieldOf, finished, immediateOf}
@@ -74,7 +74,7 @@ finish-requires : tie.Need-finish-requires
 finish-requires c κs = search needs
 
 returns-3 : tie.Need-returns-3
-returns-3 c = c .finish .ensures ∙ ap (λ (e : Said). finished e (drop (c .before .before .before .imm .given .0 .1 .0) (c .before .before .before .before .before .before .before .before .before .before .before .before .before .args .text .now))) (c .before .encode .ensures) ∙ sym (whole (c .before .before))
+returns-3 c = c .finish .ensures ∙ ap (λ (e : Reply). finished e (drop (c .before .before .before .imm .given .0 .1 .0) (c .before .before .before .before .before .before .before .before .before .before .before .before .before .args .text .now))) (c .before .encode .ensures) ∙ sym (whole (c .before .before))
 
 pub read-immediate-spec : {M : Type 1} → statement M
 read-immediate-spec =

@@ -7,7 +7,7 @@ use borrow.Author.Needs.{needs}
 use Rattle.machine.specs.declared.Stop.the-variants.{Done}
 use Rattle.journal.specs.declared.Returned.the-variants.{Back, Damaged}
 use Rattle.machine.specs.State.{stateWith}
-use Rattle.turn.proofs.Steps.{entries}
+use Rattle.step.proofs.Steps.{entries}
 use Rattle.runner.proofs.Returns.{as-told, deep, Returning, turn-round, over, at-start, again, breaks-off}
 use Rattle.runner.proofs.back_on.Statement.{statement}
 use Rattle.runner.proofs.back_on.Tie as tie

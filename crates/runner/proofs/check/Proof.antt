@@ -6,23 +6,23 @@ use Rattle.runner.proofs.Checks.{few, unsettled, deep, fine}
 use Rattle.runner.proofs.check.Statement.{statement}
 use Rattle.runner.proofs.check.Tie as tie
 
-enough-cells-requires : tie.Need-enough-cells-requires
-enough-cells-requires c κs = search needs
+good-cells-requires : tie.Need-good-cells-requires
+good-cells-requires c κs = search needs
 
 returns : tie.Need-returns
-returns c = rw (few _ _ _ _ (turned _ _ _ (c .before .enough-cells .ensures) (c .if1 .taken)))
+returns c = rw (few _ _ _ _ (turned _ _ _ (c .before .good-cells .ensures) (c .if1 .taken)))
 
-in-range-requires : tie.Need-in-range-requires
+in-range-requires : tie.Need-good-settings-requires
 in-range-requires c κs = search needs
 
 returns-2 : tie.Need-returns-2
-returns-2 c = rw (unsettled _ _ _ _ (turned _ _ _ (c .before .before .before .enough-cells .ensures) (c .before .before .if1 .left)) (turned _ _ _ (c .before .in-range .ensures) (c .if2 .taken)))
+returns-2 c = rw (unsettled _ _ _ _ (turned _ _ _ (c .before .before .before .good-cells .ensures) (c .before .before .if1 .left)) (turned _ _ _ (c .before .good-settings .ensures) (c .if2 .taken)))
 
 returns-3 : tie.Need-returns-3
-returns-3 c = rw (deep _ _ _ _ (turned _ _ _ (c .before .before .before .before .enough-cells .ensures) (c .before .before .before .if1 .left)) (turned _ _ _ (c .before .before .in-range .ensures) (c .before .if2 .left)) (c .if3 .taken))
+returns-3 c = rw (deep _ _ _ _ (turned _ _ _ (c .before .before .before .before .good-cells .ensures) (c .before .before .before .if1 .left)) (turned _ _ _ (c .before .before .good-settings .ensures) (c .before .if2 .left)) (c .if3 .taken))
 
 returns-4 : tie.Need-returns-4
-returns-4 c = rw (fine _ _ _ _ (turned _ _ _ (c .before .before .before .before .enough-cells .ensures) (c .before .before .before .if1 .left)) (turned _ _ _ (c .before .before .in-range .ensures) (c .before .if2 .left)) (c .if3 .left))
+returns-4 c = rw (fine _ _ _ _ (turned _ _ _ (c .before .before .before .before .good-cells .ensures) (c .before .before .before .if1 .left)) (turned _ _ _ (c .before .before .good-settings .ensures) (c .before .if2 .left)) (c .if3 .left))
 
 pub check-spec : {M : Type 1} → statement M
-check-spec = tie.close (tie.spec enough-cells-requires returns in-range-requires returns-2 returns-3 returns-4)
+check-spec = tie.close (tie.spec good-cells-requires returns in-range-requires returns-2 returns-3 returns-4)

@@ -53,20 +53,20 @@ cast-end c = search needs
 add-end : tie.Need-add-end Inv-loop μ-loop
 add-end c = search needs
 
-sub-carry : tie.Need-sub-carry Inv-loop μ-loop
-sub-carry c = omega arith
+sub-apply : tie.Need-sub-apply Inv-loop μ-loop
+sub-apply c = omega arith
 
-part-carry-start : tie.Need-part-carry-start Inv-loop μ-loop
-part-carry-start c = search needs
+part-apply-start : tie.Need-part-apply-start Inv-loop μ-loop
+part-apply-start c = search needs
 
-part-carry-end : tie.Need-part-carry-end Inv-loop μ-loop
-part-carry-end c = let t = there _ _ _ _ _ (c .before .before .before .before .before .before .loop .inv) in
+part-apply-end : tie.Need-part-apply-end Inv-loop μ-loop
+part-apply-end c = let t = there _ _ _ _ _ (c .before .before .before .before .before .before .loop .inv) in
     let n = size-there (c .before .before .before .before .before .before .before .before .before .args .job .now) (c .before .before .before .before .before .before .loop .at) (c .number2 .result) (c .number2 .ensures) in
     let h : 6 + c .number2 .result ≤ length (take (length (c .before .before .before .before .before .before .before .before .before .args .job .now) - c .before .before .before .before .before .before .loop .at) (drop (c .before .before .before .before .before .before .loop .at) (c .before .before .before .before .before .before .before .before .before .args .job .now))) = rw (rest-length (c .before .before .before .before .before .before .loop .at) (c .before .before .before .before .before .before .before .before .before .args .job .now)) (omega arith) in
     h
 
-carry-requires : tie.Need-carry-requires Inv-loop μ-loop
-carry-requires c κs = let k = kind-there (c .before .before .before .before .before .before .before .before .before .before .before .before .args .job .now) (c .before .before .before .before .before .before .before .before .before .loop .at) (c .before .before .before .before .before .before .kind-by .result) (c .before .before .before .before .before .before .before .number .result) (c .before .before .before .before .before .before .kind-by .ensures) (c .before .before .before .before .before .before .before .number .ensures) in
+apply-requires : tie.Need-apply-requires Inv-loop μ-loop
+apply-requires c κs = let k = kind-there (c .before .before .before .before .before .before .before .before .before .before .before .before .args .job .now) (c .before .before .before .before .before .before .before .before .before .loop .at) (c .before .before .before .before .before .before .kind-by .result) (c .before .before .before .before .before .before .before .number .result) (c .before .before .before .before .before .before .kind-by .ensures) (c .before .before .before .before .before .before .before .number .ensures) in
     let p = payload-there (c .before .before .before .before .before .before .before .before .before .before .before .before .args .job .now) (c .before .before .before .before .before .before .before .before .before .loop .at) (c .before .before .before .number2 .result) (size-there (c .before .before .before .before .before .before .before .before .before .before .before .before .args .job .now) (c .before .before .before .before .before .before .before .before .before .loop .at) (c .before .before .before .number2 .result) (c .before .before .before .number2 .ensures)) in
     let e : length (c .before .before .before .before .before .before .before .before .before .loop .cells) ≡ length (c .before .before .before .before .before .before .before .before .before .before .before .before .args .cells .now) = c .before .before .before .before .before .before .before .before .before .loop .inv .cells in
     rw (e, k, p) (record-sound (length (c .before .before .before .before .before .before .before .before .before .before .before .before .args .cells .now)) (c .before .before .before .before .before .before .before .before .before .before .before .before .args .job .now) (contentWith (c .before .before .before .before .before .before .before .before .before .before .before .before .args .regs .now) freshSettings (c .before .before .before .before .before .before .before .before .before .before .before .before .args .cells .now)) (c .before .before .before .before .before .before .before .before .before .loop .at) (contentWith (c .before .before .before .before .before .before .before .before .before .loop .regs) (c .before .before .before .before .before .before .before .before .before .loop .settings) (c .before .before .before .before .before .before .before .before .before .loop .cells)) (c .before .before .before .before .before .before .before .before .before .loop .inv))
@@ -86,7 +86,7 @@ loop-again c = let k = kind-there (c .before .before .before .before .before .be
     let n = size-there (c .before .before .before .before .before .before .before .before .before .before .before .before .before .before .before .args .job .now) (c .before .before .before .before .before .before .before .before .before .before .before .before .loop .at) (c .before .before .before .before .before .before .number2 .result) (c .before .before .before .before .before .before .number2 .ensures) in
     let p = payload-there (c .before .before .before .before .before .before .before .before .before .before .before .before .before .before .before .args .job .now) (c .before .before .before .before .before .before .before .before .before .before .before .before .loop .at) (c .before .before .before .before .before .before .number2 .result) n in
     rw n
-    (on _ _ _ _ _ (c .before .before .before .before .before .before .before .before .before .before .before .before .loop .inv) (ends-there _ _ _ _ k (c .before .before .before .before .before .before .before .before .ends .ensures) (c .before .before .before .before .before .before .before .if1 .left)) _ (rw (k, p) at (c .before .before .carry .ensures)) (search needs))
+    (on _ _ _ _ _ (c .before .before .before .before .before .before .before .before .before .before .before .before .loop .inv) (ends-there _ _ _ _ k (c .before .before .before .before .before .before .before .before .ends .ensures) (c .before .before .before .before .before .before .before .if1 .left)) _ (rw (k, p) at (c .before .before .apply .ensures)) (search needs))
 
 pub carry-out-spec : {M : Type 1} → statement M
 carry-out-spec =
@@ -106,10 +106,10 @@ carry-out-spec =
     number-requires-2
     cast-end
     add-end
-    sub-carry
-    part-carry-start
-    part-carry-end
-    carry-requires
+    sub-apply
+    part-apply-start
+    part-apply-end
+    apply-requires
     add-at
     loop-less
     loop-again)

@@ -7,12 +7,12 @@ use mathlib.Core.Path.{_≡_}
 use native.Mathlib.Omega.{arith}
 use borrow.Author.Needs.{needs}
 use Rattle.job.proofs.Walk.{lent-length}
-use Rattle.job.specs.Job.{courseOf}
+use Rattle.job.specs.Job.{fateOf}
 use Rattle.job.proofs.reading.look_at.Statement.{statement}
 use Rattle.job.proofs.reading.look_at.Tie as tie
 
 returns : tie.Need-returns
-unfolding courseOf
+unfolding fateOf
 returns c = rw (lt-ltb _ _ (c .if1 .taken))
 
 number-requires : tie.Need-number-requires
@@ -25,7 +25,7 @@ known-requires : tie.Need-known-requires
 known-requires c κs = search needs
 
 returns-2 : tie.Need-returns-2
-unfolding courseOf
+unfolding fateOf
 returns-2 c = rw (le-ltb _ _ (c .before .before .before .before .if1 .left), ← c .before .before .before .number .ensures, ← c .before .before .kind-by .ensures, ← c .before .known .ensures, c .if2 .taken)
 
 number-requires-2 : tie.Need-number-requires-2
@@ -35,7 +35,7 @@ fits-requires : tie.Need-fits-requires
 fits-requires c κs = search needs
 
 returns-3 : tie.Need-returns-3
-unfolding courseOf
+unfolding fateOf
 returns-3 c = rw (le-ltb _ _ (c .before .before .before .before .before .before .before .if1 .left), ← c .before .before .before .before .before .before .number .ensures, ← c .before .before .before .before .before .kind-by .ensures, ← c .before .before .before .before .known .ensures, c .before .before .before .if2 .left, ← c .before .before .number2 .ensures, ← c .before .fits2 .ensures, c .if3 .taken)
 
 cast-end : tie.Need-cast-end
@@ -45,7 +45,7 @@ add-end : tie.Need-add-end
 add-end c = search needs
 
 returns-4 : tie.Need-returns-4
-unfolding courseOf
+unfolding fateOf
 returns-4 c = rw (le-ltb _ _ (c .before .before .before .before .before .before .before .before .if1 .left), ← c .before .before .before .before .before .before .before .number .ensures, ← c .before .before .before .before .before .before .kind-by .ensures, ← c .before .before .before .before .before .known .ensures, c .before .before .before .before .if2 .left, ← c .before .before .before .number2 .ensures, ← c .before .before .fits2 .ensures, c .before .if3 .left, lt-ltb _ _ (c .if4 .taken))
 
 sub-look-in : tie.Need-sub-look-in
@@ -61,7 +61,7 @@ look-in-requires : tie.Need-look-in-requires
 look-in-requires c κs = rw (lent-length _ _ (c .before .if4 .left), ← c .before .before .before .fits2 .ensures) (not-false _ (c .before .before .if3 .left))
 
 returns-5 : tie.Need-returns-5
-unfolding courseOf
+unfolding fateOf
 returns-5 c = let n = c .before .before .before .before .before .number2 .result in
     let e : 6 + n - 6 ≡ n = omega arith in
     let l : length (take n (drop 6 (c .before .before .before .before .before .before .before .before .before .before .before .before .args .left .now))) ≡ n = rw e at (lent-length (c .before .before .before .before .before .before .before .before .before .before .before .before .args .left .now) n (c .before .before .if4 .left)) in

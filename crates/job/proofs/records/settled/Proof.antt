@@ -19,7 +19,7 @@ enum-told-3 c = search needs
 settings-in-requires : tie.Need-settings-in-requires
 settings-in-requires c κs = let s = setup-size _ (length (c .before .before .before .args .payload .now)) (c .enum-told3 .given .1) (c .before .before .before .pre) in omega arith
 
-in-range-requires : tie.Need-in-range-requires
+in-range-requires : tie.Need-good-settings-requires
 in-range-requires c κs = search needs
 
 enum-told-4 : tie.Need-enum-told-4
@@ -35,7 +35,7 @@ returns-2 : tie.Need-returns-2
 returns-2 c = search needs
 
 returns-3 : tie.Need-returns-3
-returns-3 c = rw (c .before .before .enum-told3 .given .1, c .in-range .ensures, c .before .settings-in .ensures)
+returns-3 c = rw (c .before .before .enum-told3 .given .1, c .good-settings .ensures, c .before .settings-in .ensures)
 
 returns-4 : tie.Need-returns-4
 returns-4 c = search needs

@@ -1,0 +1,70 @@
+-- `job::reading::apply` meets its contract: in each arm the kind is known.
+-- Assumes nothing.
+use native.Mathlib.Omega.{arith}
+use lib.ListN.{length}
+use borrow.Author.Needs.{needs}
+use Rattle.job.specs.declared.records.Kind.the-variants.{Run}
+use Rattle.job.proofs.Rules.{as-sound, register-size, setup-size}
+use Rattle.job.proofs.reading.apply.Statement.{statement}
+use Rattle.job.proofs.reading.apply.Tie as tie
+
+enum-told : tie.Need-enum-told
+enum-told c = search needs
+
+put-run-requires : tie.Need-put-run-requires
+put-run-requires c κs = as-sound _ _ Run _ (c .before .enum-told .given .1) (c .before .before .before .before .before .pre)
+
+enum-told-2 : tie.Need-enum-told-2
+enum-told-2 c = search needs
+
+put-value-requires : tie.Need-put-value-requires
+put-value-requires c κs = register-size _ _ (c .before .enum-told2 .given .1) (c .before .before .before .before .before .pre .fits)
+
+enum-told-3 : tie.Need-enum-told-3
+enum-told-3 c = search needs
+
+settings-in-requires : tie.Need-settings-in-requires
+settings-in-requires c κs = let s = setup-size _ (length (c .before .before .before .before .args .payload .now)) (c .enum-told3 .given .1) (c .before .before .before .before .pre .fits) in omega arith
+
+enum-told-4 : tie.Need-enum-told-4
+enum-told-4 c = search needs
+
+enum-told-5 : tie.Need-enum-told-5
+enum-told-5 c = search needs
+
+same-length : tie.Need-same-length
+same-length c = search needs
+
+returns : tie.Need-returns
+returns c = rw (c .before .before .before .before .enum-told .given .1, c .before .before .put-run .ensures)
+
+returns-2 : tie.Need-returns-2
+returns-2 c = rw (c .before .before .enum-told2 .given .1, c .put-value .ensures)
+
+returns-3 : tie.Need-returns-3
+returns-3 c = rw (c .before .enum-told3 .given .1, c .settings-in .ensures)
+
+returns-4 : tie.Need-returns-4
+returns-4 c = rw (c .enum-told4 .given .1)
+
+returns-5 : tie.Need-returns-5
+returns-5 c = rw (c .enum-told5 .given .1)
+
+pub apply-spec : {M : Type 1} → statement M
+apply-spec =
+    tie.close
+    (tie.spec
+    enum-told
+    put-run-requires
+    enum-told-2
+    put-value-requires
+    enum-told-3
+    settings-in-requires
+    enum-told-4
+    enum-told-5
+    same-length
+    returns
+    returns-2
+    returns-3
+    returns-4
+    returns-5)

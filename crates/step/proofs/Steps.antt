@@ -1,0 +1,102 @@
+-- What one step is, test by test: the stop that refuses it, or the effect that is carried out.
+-- Assumes nothing.
+use Prim.Native.Nat.{ℕ, _+_, _*_, _≤_, _<_}
+use mathlib.Core.Path.{_≡_, refl, sym, _∙_}
+use mathlib.Core.Bool.{cond}
+use mathlib.Core.List.{List}
+use mathlib.Core.Option.{Option, none, some}
+use native.Mathlib.Omega.{arith}
+use lib.Dec.{leb}
+use lib.ListN.{length}
+use borrow.Author.Tests.{lt-leb, le-leb}
+use Rattle.effect.specs.declared.Effect.{Effect}
+use Rattle.machine.specs.declared.Settings.{Settings}
+use Rattle.effect.specs.declared.instruction.Considered.{Considered}
+use Rattle.machine.specs.State.{State, capacityOf, entriesIn, firstSpecial, pcOf}
+use Rattle.journal.specs.Journal.{applyOf}
+use Rattle.effect.specs.Refusal.{refusedBy}
+use Rattle.step.specs.Step.{actionIn, refusalOf, effectIn, Course, refused, stopped, answered, courseOf, stepOf}
+use Rattle.machine.specs.Stops.{plainly}
+use Rattle.step.specs.Inner.{doneOf}
+use Rattle.effect.specs.Inner.{Told, does, told, meant, toldOf}
+use Rattle.effect.proofs.Safe.{Safe, safe}
+
+module _ (s : State) where
+  pub refused-with : (k : ℕ) → refusalOf s ≡ some k → record { state = s; course = refused (plainly k) } ≡ stepOf s
+  unfolding stepOf
+  refused-with k h = rw h
+
+  pub done-with : (e : Effect) → refusalOf s ≡ none → effectIn s ≡ e → doneOf e s ≡ stepOf s
+  unfolding stepOf
+  done-with e h i = rw (h, i)
+
+  -- the state and the course that carrying an effect out leaves
+  pub done-as : (e : Effect) (x : State) (v : Course) → x ≡ applyOf e s
+      → v ≡ cond (leb firstSpecial (pcOf (x .regs))) (stopped (plainly 1)) (answered (e .answer) e)
+      → record { state = x; course = v } ≡ doneOf e s
+  unfolding courseOf
+  done-as e x v p q = rw (q, p)
+
+  pub at-end : firstSpecial ≤ pcOf (s .regs) → refusalOf s ≡ some 1
+  unfolding refusalOf
+  at-end h = rw (le-leb _ _ h)
+
+  module _ (on : pcOf (s .regs) < firstSpecial) where
+    pub off-cells : length (s .cells) ≤ pcOf (s .regs) → refusalOf s ≡ some 4
+    unfolding refusalOf
+    off-cells h = rw (lt-leb _ _ on, le-leb _ _ h)
+
+    module _ (within : pcOf (s .regs) < length (s .cells)) where
+      pub full : capacityOf (s .journal) ≤ s .depth → refusalOf s ≡ some 7
+      unfolding refusalOf
+      full h = rw (lt-leb _ _ on, lt-leb _ _ within, le-leb _ _ h)
+
+      pub looked-at : s .depth < capacityOf (s .journal) → refusalOf s ≡ refusedBy (actionIn s) s
+      unfolding refusalOf
+      looked-at h = rw (lt-leb _ _ on, lt-leb _ _ within, lt-leb _ _ h)
+
+-- below J there is room for an entry, and J entries are within the journal
+pub room : (journal : List ℕ) (depth : ℕ) → depth < capacityOf journal → 8 * (depth + 1) ≤ length journal
+unfolding capacityOf entriesIn
+room journal depth h = omega arith
+
+pub few : (journal : List ℕ) (depth : ℕ) → depth < capacityOf journal → depth < 65536
+unfolding capacityOf entriesIn
+few journal depth h = omega arith
+
+pub entries : (journal : List ℕ) (depth : ℕ) → depth ≤ capacityOf journal → 8 * depth ≤ length journal
+unfolding capacityOf entriesIn
+entries journal depth h = omega arith
+
+-- what was considered, by the case that it is
+pub read-as : (s : Settings) (r x : Considered) (y : Told) → r ≡ x → meant s r ≡ y → meant s x ≡ y
+read-as s r x y e h = rw (← e) h
+
+-- what was told tells the refusal, or the effect
+never : {P : Type 0} → _≡_ {A = ℕ} 0 1 → P
+never z = absurd (omega arith)
+
+refused-is : (o : Option ℕ) (e : Effect) (k : ℕ) → told o e ≡ Told.refused k → o ≡ some k
+refused-is (some j) e k h = cc
+refused-is none e k h = never (cc)
+
+does-is : (o : Option ℕ) (e f : Effect) → told o e ≡ does f → (o ≡ none) × (e ≡ f)
+does-is (some j) e f h = never (cc)
+does-is none e f h = (refl, cc)
+
+module _ (s : State) (same : refusalOf s ≡ refusedBy (actionIn s) s) where
+  pub refused-by : (k : ℕ) → Told.refused k ≡ toldOf (actionIn s) s → refusalOf s ≡ some k
+  unfolding toldOf
+  refused-by k h = same ∙ refused-is _ _ k (sym h)
+
+  module _ (e : Effect) (h : does e ≡ toldOf (actionIn s) s) where
+    allowed : (refusedBy (actionIn s) s ≡ none) × (effectIn s ≡ e)
+    unfolding toldOf effectIn
+    allowed = does-is _ _ e (sym h)
+
+    pub safe-does : Safe (length (s .cells)) (s .settings) e
+    unfolding effectIn
+    safe-does = rw (← allowed .1) (safe s (actionIn s) (allowed .0))
+
+    pub does-step : doneOf e s ≡ stepOf s
+    does-step = done-with s e (same ∙ allowed .0) (allowed .1)

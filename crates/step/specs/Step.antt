@@ -1,0 +1,76 @@
+-- One step: document 01, 'Stops of step, run and back'.
+use Prim.Native.Nat.{ℕ}
+use mathlib.Core.Bool.{Bool, cond, not}
+use mathlib.Core.Option.{Option, none, some}
+use mathlib.Core.List.{List}
+use lib.Bits.{bitAnd}
+use lib.Dec.{leb, eqb}
+use lib.ListN.{getD, length}
+use Rattle.cell.specs.Cell.{decodeOf}
+use Rattle.effect.specs.Action.{Action, actionOf}
+use Rattle.effect.specs.Refusal.{refusedBy}
+use Rattle.effect.specs.declared.Effect.{Effect}
+use Rattle.effect.specs.declared.Answer.{Answer}
+use Rattle.effect.specs.declared.Answer.the-variants.{Onward, Interrupt}
+use Rattle.machine.specs.State.{State, stateWith, capacityOf, pcOf}
+use Rattle.step.specs.declared.Verdict.{Verdict}
+use Rattle.step.specs.declared.Verdict.the-variants.{Going, Stopped, Refused}
+use Rattle.step.specs.declared.Advanced.{Advanced}
+use Rattle.effect.specs.Effect.{effectOf}
+use Rattle.journal.specs.Journal.{endedOf, regsAfter, applyOf}
+use Rattle.machine.specs.Stops.{saidOf, Said, plainly}
+
+-- What the instruction that the cell at PC is asks for.
+abbrev pub actionIn : State → Action
+actionIn s = actionOf (decodeOf (getD (s .cells) (pcOf (s .regs)) 0))
+
+-- Before each step: 1, 4, 7, 6, 5. None of them, or the first.
+unfoldable pub refusalOf : State → Option ℕ
+refusalOf s =
+    cond (endedOf (s .regs)) (some 1)
+    (cond (leb (length (s .cells)) (pcOf (s .regs))) (some 4)
+    (cond (leb (capacityOf (s .journal)) (s .depth)) (some 7)
+    (refusedBy (actionIn s) s)))
+
+-- what the instruction at PC does
+unfoldable pub effectIn : State → Effect
+effectIn s = effectOf (actionIn s) s
+
+-- What became of a step: done and going on, done and stopped, or refused with nothing done.
+pub data Course : Type 0 where
+  going : Course
+  stopped : Said → Course
+  refused : Said → Course
+
+-- 2: a flag this step wrote as 1, even over a 1, is in the mask
+abbrev pub trapsOf : Effect → Bool
+trapsOf e = not (eqb (bitAnd (e .raised) (e .settings .mask)) 0)
+
+-- After it: 1, 3, 2.
+abbrev pub answered : Answer → Effect → Course
+answered Onward e = cond (trapsOf e) (stopped (plainly 2)) going
+answered (Interrupt value imm) e = stopped (record { number = 3; value = value; imm = imm })
+
+unfoldable pub courseOf : Effect → List ℕ → Course
+courseOf e regs = cond (endedOf (regsAfter e regs)) (stopped (plainly 1)) (answered (e .answer) e)
+
+-- One step: the machine, cells and journal after it, and what became of it. A refused step changes nothing.
+pub record Moved : Type 0 where
+  pub state : State
+  pub course : Course
+
+abbrev pub moved : Option ℕ → State → Moved
+moved (some k) s = record { state = s; course = refused (plainly k) }
+moved none s = record { state = applyOf (effectIn s) s; course = courseOf (effectIn s) (s .regs) }
+
+unfoldable pub stepOf : State → Moved
+stepOf s = moved (refusalOf s) s
+
+-- what became of a step, from the code's answer
+abbrev pub verdictOf : Verdict → Course
+verdictOf Going = going
+verdictOf (Stopped x) = stopped (saidOf x)
+verdictOf (Refused x) = refused (saidOf x)
+
+abbrev pub advancedTo : Advanced → List ℕ → List ℕ → List ℕ → Moved
+advancedTo r regs cells journal = record { state = stateWith regs (r .settings) (r .depth) cells journal; course = verdictOf (r .verdict) }
