@@ -1,7 +1,10 @@
 pub mod Small
+pub mod Stops
+pub mod Outcome
+pub mod Repeat
+pub mod Return
 pub mod Travel
 pub mod Loaded
-pub mod Repeat
 pub mod Once
 pub mod Refusals
 pub mod Readback

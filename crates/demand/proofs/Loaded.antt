@@ -2,16 +2,10 @@
 -- Assumes nothing.
 use Prim.Native.Nat.{ℕ}
 use mathlib.Core.List.{List}
-use Rattle.machine.specs.State.{State, stateOf}
-use Rattle.job.specs.Job.{loadOf}
-use Rattle.job.proofs.Numbers.{Bytes}
-use Rattle.job.proofs.Lawful.{Loads, some-cells, few-cells, loaded-lawful, loaded-depth, loaded-cells}
-use Rattle.demand.specs.Journey.{Call, setOut, travel, Arrived}
+use Rattle.job.specs.Loads.{Bytes, Loads}
+use Rattle.job.proofs.Lawful.{some-cells, few-cells, loaded-lawful, loaded-depth, loaded-cells}
+use Rattle.demand.specs.Journey.{Call, setOut, travel, loaded, Arrived}
 use Rattle.demand.proofs.Travel.{journey}
-
--- the loaded job, with the journal that the host lends
-abbrev pub loaded : List ℕ → List ℕ → List ℕ → State
-loaded job cells journal = stateOf (loadOf job cells .machine) (loadOf job cells .cells) journal
 
 pub loaded-journey : (job cells journal : List ℕ) → Bytes job → Loads job cells → (cs : List Call)
     → Arrived (loaded job cells journal) (travel cs (setOut (loaded job cells journal)))

@@ -16,19 +16,16 @@ use Rattle.machine.specs.State.{State, mostCells, capacityOf}
 use Rattle.journal.specs.Journal.{applyOf, lastOf, damagedOf, undoOf}
 use Rattle.machine.specs.Stops.{Said, plainly}
 use Rattle.step.specs.Step.{Course, going, stopped, refused, actionIn, effectIn, refusalOf, moved, stepOf}
-use Rattle.runner.specs.Calls.{Out, stopAt, onward, runFrom, backFrom, checkOf, called, backOf}
+use Rattle.runner.specs.Calls.{Out, stopAt, onward, runFrom, backFrom, checkIn, called, backOf}
 use Rattle.effect.proofs.Blind as blind
+use Rattle.step.specs.Steps.{steps}
 use Rattle.step.proofs.Steps.{room}
 use Rattle.step.proofs.Keeps.{clear, formed-in, lawful-after}
-use Rattle.machine.proofs.Lawful.{Lawful}
+use Rattle.machine.specs.Lawful.{Lawful}
 use Rattle.journal.proofs.Entry.{Room, withJournal, intact-with, undo-with, up-to, last-known, earlier-known, lengths}
 use Rattle.runner.proofs.Counts.{done, course-done}
 use Rattle.runner.proofs.Checks.{passes}
-use Rattle.demand.specs.Journey.{Call, Step, Run, Back, Trip, setOut, forward, call, travel, steps, seen, Arrived}
-
--- the check of a call on s
-abbrev check : State → Option ℕ
-check s = checkOf (length (s .cells)) (s .settings) (capacityOf (s .journal)) (s .depth)
+use Rattle.demand.specs.Journey.{Call, Step, Run, Back, Trip, setOut, forward, call, travel, seen, Arrived}
 
 module _ (s₀ : State) (lawful₀ : Lawful s₀) (empty : s₀ .depth ≡ 0) where
   -- n steps, each of them done
@@ -201,9 +198,9 @@ module _ (s₀ : State) (lawful₀ : Lawful s₀) (empty : s₀ .depth ≡ 0) wh
   At w = Reached (w .state) (w .ahead) (w .behind)
 
   calls : (c : Call) (w : Trip) → At w → At (call c w)
-  calls Step w r = called-forward (check (w .state)) 1 (w .ahead) (w .behind) (w .state) r
-  calls (Run n) w r = called-forward (check (w .state)) n (w .ahead) (w .behind) (w .state) r
-  calls (Back n) w r = called-back (check (w .state)) n (w .ahead) (w .behind) (w .state) r
+  calls Step w r = called-forward (checkIn (w .state)) 1 (w .ahead) (w .behind) (w .state) r
+  calls (Run n) w r = called-forward (checkIn (w .state)) n (w .ahead) (w .behind) (w .state) r
+  calls (Back n) w r = called-back (checkIn (w .state)) n (w .ahead) (w .behind) (w .state) r
 
   travels : (cs : List Call) (w : Trip) → At w → At (travel cs w)
   unfolding travel
@@ -216,12 +213,12 @@ module _ (s₀ : State) (lawful₀ : Lawful s₀) (empty : s₀ .depth ≡ 0) wh
 
   module _ (some-cells : 1 ≤ length (s₀ .cells)) (few-cells : length (s₀ .cells) ≤ mostCells) where
     -- no call on a state that was reached is refused at once
-    fine : (s : State) (f b : ℕ) → Reached s f b → check s ≡ none
+    fine : (s : State) (f b : ℕ) → Reached s f b → checkIn s ≡ none
     fine s f b r =
         let t = r .there in
         let l = trace-lawful (r .trace) in
         let cells = trace-cells (r .trace) in
-        ap check (r .state) ∙ passes (length (t .cells)) (t .settings) (capacityOf (r .journal)) (t .depth) (record {
+        ap checkIn (r .state) ∙ passes (length (t .cells)) (t .settings) (capacityOf (r .journal)) (t .depth) (record {
           some-cells = rw cells some-cells;
           few-cells = rw cells few-cells;
           settled = l .ready .settled;
@@ -240,13 +237,6 @@ module _ (s₀ : State) (lawful₀ : Lawful s₀) (empty : s₀ .depth ≡ 0) wh
     unfolding backFrom
     not-at-start s h d = rw (ne-eqb (s .depth) 0 h, d)
 
-    only-at-start : (s : State) (f b : ℕ) → Backed s f b → backFrom 1 0 s .said ≡ plainly 8 → (t : Bool) → eqb (s .depth) 0 ≡ t → f ≡ b
-    only-at-start s f b k h true q = k .even (eqb-true (s .depth) 0 q)
-    only-at-start s f b k h false q =
-        let d = eqb-false (s .depth) 0 q in
-        let z : _≡_ {A = ℕ} 0 8 = ap (λ (x : Said). x .number) (sym (not-at-start s d (k .intact d)) ∙ h) in
-        absurd (omega arith)
-
     arrived : (w : Trip) → At w → Arrived s₀ w
     arrived w r =
         let c = r .count in
@@ -260,8 +250,10 @@ module _ (s₀ : State) (lawful₀ : Lawful s₀) (empty : s₀ .depth ≡ 0) wh
           sight = ap seen (r .state) ∙ ap seen (sym s);
           depth = ap (λ (x : State). x .depth) (r .state) ∙ d;
           taken = rw s d;
-          refused = λ h. ap (λ (o : Out). o .said) one ∙ at-start (w .state) (k .start h);
-          only = λ h. only-at-start (w .state) (w .ahead) (w .behind) k (ap (λ (o : Out). o .said) (sym one) ∙ h) (eqb (w .state .depth) 0) refl;
+          start = λ h. ap (λ (o : Out). o .said) one ∙ at-start (w .state) (k .start h);
+          elsewhere = λ h.
+              let deep : w .state .depth ≡ 0 → ⊥ = λ z. h (k .even z) in
+              ap (λ (o : Out). o .said) one ∙ not-at-start (w .state) deep (k .intact deep);
         }
 
     -- Demand 3, from any lawful machine at depth 0

@@ -1,28 +1,31 @@
--- Demands 1 and 2: what each call may say, and that a run is the definition's step repeated.
-use Prim.Native.Nat.{ℕ, zero, suc, _+_, _≤_}
+-- Demands 1 and 2: what each call may say; that a run is the definition's step repeated, and a going back its step back, until one of
+-- the stops of document 01, 'Stops of step, run and back'.
+use Prim.Native.Nat.{ℕ, suc, _+_, _<_}
 use mathlib.Core.Path.{_≡_}
-use mathlib.Core.Bool.{Bool, false, _||_}
+use mathlib.Core.Bool.{Bool, true, false, _||_}
+use mathlib.Core.Option.{none, some}
 use mathlib.Core.List.{List, [], _∷_}
 use lib.Dec.{eqb}
 use Rattle.machine.specs.State.{State}
-use Rattle.journal.specs.Journal.{undoOf}
-use Rattle.machine.specs.Stops.{plainly}
-use Rattle.runner.specs.Calls.{Out}
-use Rattle.demand.specs.Journey.{steps}
+use Rattle.machine.specs.Stops.{Said, plainly}
+use Rattle.journal.specs.Undos.{undos, damagedIn, Sound}
+use Rattle.step.specs.Step.{going, stopped, refused}
+use Rattle.step.specs.Steps.{steps, courseAfter}
+use Rattle.runner.specs.Calls.{Out, stopAt, checkIn}
 
 -- x is one of the list
 unfoldable pub listed : List ℕ → ℕ → Bool
 listed [] x = false
 listed (y ∷ ys) x = eqb x y || listed ys x
 
--- Document 01's numbers for step and run, and for back.
+-- the numbers of step and run, and of back
 abbrev pub runStops : List ℕ
 runStops = 0 ∷ 1 ∷ 2 ∷ 3 ∷ 4 ∷ 5 ∷ 6 ∷ 7 ∷ 10 ∷ 11 ∷ 12 ∷ []
 
 abbrev pub backStops : List ℕ
 backStops = 0 ∷ 8 ∷ 9 ∷ 10 ∷ 11 ∷ 12 ∷ []
 
--- Document 01's numbers for encoding, printing, reading, loading and saving, after 0, which says that it was done.
+-- the numbers of encoding, printing, reading, loading and saving, after 0, which says that it was done
 abbrev pub encodeSays : List ℕ
 encodeSays = 0 ∷ 21 ∷ 22 ∷ []
 
@@ -38,20 +41,47 @@ loadSays = 0 ∷ 12 ∷ 41 ∷ 42 ∷ 43 ∷ 44 ∷ 46 ∷ 45 ∷ 10 ∷ 47 ∷ 
 abbrev pub saveSays : List ℕ
 saveSays = 0 ∷ 12 ∷ 10 ∷ 48 ∷ []
 
--- A run of budget n from s that left o: the definition's step repeated as often as it counts, until n steps are done or a named stop comes;
--- its count is the number done and the rise of depth.
+-- each of the first k steps is done and goes on
+abbrev pub GoesOn : ℕ → State → Type 0
+GoesOn k s = (j : ℕ) → j < k → courseAfter j s ≡ going
+
+-- When a run of budget n from s ends, with how many steps done, and what it says.
+pub data Ends (n : ℕ) (s : State) : ℕ → Said → Type 0 where
+  -- all n steps went on: 0
+  spent : GoesOn n s → Ends n s n (plainly 0)
+  -- the last step that was done named the stop
+  last : (k : ℕ) (x : Said) → k < n → GoesOn k s → courseAfter k s ≡ stopped x → Ends n s (suc k) x
+  -- the step after the last one done is refused with it
+  next : (k : ℕ) (x : Said) → k < n → GoesOn k s → courseAfter k s ≡ refused x → Ends n s k x
+
+-- A run of budget n from s that left o: as many steps of the definition as it counts; it ends where they do; 0 says that all n are done;
+-- the count is the rise of depth.
 pub record Repeated (n : ℕ) (s : State) (o : Out) : Type 0 where
   pub state : o .state ≡ steps (o .count) s
-  pub most : o .count ≤ n
-  pub full : o .said ≡ plainly 0 → o .state .depth ≡ s .depth + n
+  pub ends : Ends n s (o .count) (o .said)
+  pub full : o .said ≡ plainly 0 → o .count ≡ n
   pub rise : o .state .depth ≡ s .depth + o .count
 
--- Going back by n from s that left o: the definition's step back repeated as often as it counts; its count is the fall of depth.
-unfoldable pub undos : ℕ → State → State
-undos zero s = s
-undos (suc n) s = undoOf (undos n s)
+-- each of the first k steps back finds a step to take back, and an entry that can be one
+abbrev pub FallsOn : ℕ → State → Type 0
+FallsOn k s = (j : ℕ) → j < k → Sound (undos j s)
 
+-- When a going back by n from s ends, with how many steps taken back, and what it says.
+pub data Falls (n : ℕ) (s : State) : ℕ → Said → Type 0 where
+  -- all n were taken back: 0
+  spent : FallsOn n s → Falls n s n (plainly 0)
+  -- no step is left to take back: 8
+  start : (k : ℕ) → k < n → FallsOn k s → undos k s .depth ≡ 0 → Falls n s k (plainly 8)
+  -- there is one, and its entry cannot be one: 9
+  damaged : (k : ℕ) → k < n → FallsOn k s → (undos k s .depth ≡ 0 → ⊥) → damagedIn (undos k s) ≡ true → Falls n s k (plainly 9)
+
+-- Going back by n from s that left o: as many steps back as it counts; it ends where they do; the count is the fall of depth.
 pub record Returned (n : ℕ) (s : State) (o : Out) : Type 0 where
   pub state : o .state ≡ undos (o .count) s
-  pub most : o .count ≤ n
+  pub ends : Falls n s (o .count) (o .said)
   pub fall : o .count + o .state .depth ≡ s .depth
+
+-- A whole call on s that left o: refused at once with 12, 10 or 11 and nothing done, or what the call is for.
+pub record Called (Done : Out → Type 0) (s : State) (o : Out) : Type 0 where
+  pub refusal : (k : ℕ) → checkIn s ≡ some k → o ≡ stopAt (plainly k) 0 s
+  pub else : checkIn s ≡ none → Done o

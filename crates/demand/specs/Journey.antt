@@ -1,12 +1,13 @@
 -- Load a job, then step forward and back in any sequence of calls.
-use Prim.Native.Nat.{ℕ, zero, suc, _+_, _-_, _≤_}
+use Prim.Native.Nat.{ℕ, _+_, _-_, _≤_}
 use mathlib.Core.Path.{_≡_}
 use mathlib.Core.List.{List, [], _∷_}
 use Rattle.machine.specs.declared.Settings.{Settings}
-use Rattle.machine.specs.State.{State}
+use Rattle.machine.specs.State.{State, stateOf}
 use Rattle.machine.specs.Stops.{plainly}
-use Rattle.step.specs.Step.{stepOf}
+use Rattle.step.specs.Steps.{steps}
 use Rattle.runner.specs.Calls.{Out, runOf, backOf}
+use Rattle.job.specs.Job.{loadOf}
 
 -- A call: a step, a run of a budget, or back by a number.
 pub data Call : Type 0 where
@@ -40,11 +41,6 @@ unfoldable pub travel : List Call → Trip → Trip
 travel [] w = w
 travel (c ∷ cs) w = travel cs (call c w)
 
--- n steps of the definition
-unfoldable pub steps : ℕ → State → State
-steps zero s = s
-steps (suc n) s = stepOf (steps n s) .state
-
 -- registers, settings and cells
 pub record Seen : Type 0 where
   pub regs : List ℕ
@@ -54,12 +50,16 @@ pub record Seen : Type 0 where
 abbrev pub seen : State → Seen
 seen s = record { regs = s .regs; settings = s .settings; cells = s .cells }
 
--- Where a trip from s, at depth 0, has come to: with f steps forward and b back, registers, settings and cells are exactly those that f minus
--- b steps of the definition reach from s, each of them done; a single step back is refused exactly when f = b.
+-- the loaded job, with the journal that the host lends
+abbrev pub loaded : List ℕ → List ℕ → List ℕ → State
+loaded job cells journal = stateOf (loadOf job cells .machine) (loadOf job cells .cells) journal
+
+-- Where a trip from s, at depth 0, has come to, with f steps forward and b back: to what f - b steps of the definition show, each of them
+-- done. One step back is refused with 8 where f = b, and taken, which says 0, wherever else.
 pub record Arrived (s : State) (w : Trip) : Type 0 where
   pub fewer : w .behind ≤ w .ahead
   pub sight : seen (w .state) ≡ seen (steps (w .ahead - w .behind) s)
   pub depth : w .state .depth ≡ w .ahead - w .behind
   pub taken : steps (w .ahead - w .behind) s .depth ≡ w .ahead - w .behind
-  pub refused : w .ahead ≡ w .behind → backOf 1 (w .state) .said ≡ plainly 8
-  pub only : backOf 1 (w .state) .said ≡ plainly 8 → w .ahead ≡ w .behind
+  pub start : w .ahead ≡ w .behind → backOf 1 (w .state) .said ≡ plainly 8
+  pub elsewhere : (w .ahead ≡ w .behind → ⊥) → backOf 1 (w .state) .said ≡ plainly 0

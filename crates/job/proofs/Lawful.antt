@@ -13,12 +13,14 @@ use borrow.Author.Tests.{leb-false, eqb-false, not-true}
 use Rattle.machine.specs.declared.Settings.{Settings}
 use Rattle.machine.specs.State.{flagsBound, InRange, mostCells, stateOf, badCells, badSettings}
 use Rattle.machine.proofs.Tests.{picked, or-left, or-right}
-use Rattle.machine.proofs.Lawful.{Words, set-words, Lawful}
+use Rattle.machine.specs.Lawful.{Words, Lawful}
+use Rattle.machine.proofs.Words.{set-words}
 use Rattle.job.specs.declared.records.Kind.{Kind}
 use Rattle.job.specs.declared.records.Kind.the-variants.{Run, Register, Setup, End, Other}
 use Rattle.job.specs.declared.records.Past.{Past}
 use Rattle.job.specs.Job.{wordsOf, cellsIn, baseOf, countOf, registerOf, registerValue, settingsIn, knownOf, fitsOf, endsOf, sizeOf, kindOf, payloadOf, inOrder, withinOf, settingsFit, pastOf, nothingYet, Fate, refused, last, onward, passed, fateOf, Notice, refusedAt, endOf, followed, refusalFrom, refusalIn, Content, contentOf, contentFrom, unnamed, loadedBy, loadOf}
-use Rattle.job.proofs.Numbers.{Bytes, bytes-drop, bytes-take, below-4}
+use Rattle.job.specs.Loads.{Bytes, Loads}
+use Rattle.job.proofs.Numbers.{bytes-drop, bytes-take, below-4}
 use Rattle.machine.proofs.Checks.{not-above}
 use Rattle.job.proofs.Walk.{passing}
 
@@ -161,10 +163,6 @@ walk-named (suc n) m left offset past =
 refusal-named : (m : ℕ) (job : List ℕ) → Named (refusalIn m job)
 unfolding refusalIn
 refusal-named m job = picked Named (badCells m) _ _ (λ t e. omega arith) (λ t. walk-named (length job) m job 0 nothingYet)
-
--- what is said of a job that loads
-abbrev pub Loads : List ℕ → List ℕ → Type 0
-Loads job cells = loadOf job cells .said ≡ record { number = 0; offset = 0 }
 
 loads : (o : Option Notice) (job cells : List ℕ) → Named o → loadedBy o job cells .said ≡ record { number = 0; offset = 0 } → o ≡ none
 loads none job cells f h = refl

@@ -8,11 +8,9 @@ use native.Mathlib.Omega.{arith}
 use lib.ListN.{length, getD, take, drop}
 use lib.Seq.{drop-cons}
 use Rattle.job.specs.Job.{littleOf, bytesOf, numberAt}
+use Rattle.job.specs.Loads.{Bytes}
 
--- a list of bytes, and its parts
-abbrev pub Bytes : List ℕ → Type 0
-Bytes l = (i : ℕ) → getD l i 0 < 256
-
+-- the parts of a list of bytes
 pub bytes-drop : (n : ℕ) (l : List ℕ) → Bytes l → Bytes (drop n l)
 bytes-drop zero l b = b
 bytes-drop (suc n) [] b = b

@@ -3,3 +3,4 @@ pub mod Words
 pub mod Damage
 pub mod Entry
 pub mod Named
+pub mod Undoing

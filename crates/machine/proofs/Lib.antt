@@ -1,5 +1,5 @@
 pub mod Tests
 pub mod Parts
-pub mod Lawful
+pub mod Words
 pub mod Named
 pub mod Checks

@@ -12,7 +12,7 @@ use borrow.Author.Tests.{leb-false, ltb-false, eqb-false, lt-ltb, lt-leb, le-ltb
 use Rattle.machine.specs.declared.Settings.{Settings}
 use Rattle.machine.specs.State.{State, mostCells, capacityOf, badCells, badSettings, entriesIn, flagsBound, InRange}
 use Rattle.machine.specs.Stops.{Said, plainly}
-use Rattle.runner.specs.Calls.{Out, stopAt, checkOf, called, callOf}
+use Rattle.runner.specs.Calls.{Out, stopAt, checkOf, checkIn, called, callOf}
 use Rattle.runner.specs.declared.Checked.{Checked}
 use Rattle.runner.specs.Inner.{saidBy, checkedOf}
 use Rattle.machine.proofs.Tests.{or-left, or-right}
@@ -47,16 +47,12 @@ module _ (m : ℕ) (s : Settings) (j depth : ℕ) where
   unfolding checkOf
   fine a b c = rw (a, b, le-ltb j depth c)
 
--- the check of a call on s
-abbrev check : State → Option ℕ
-check s = checkOf (length (s .cells)) (s .settings) (capacityOf (s .journal)) (s .depth)
-
 module _ (body : ℕ → ℕ → State → Out) (n : ℕ) (s : State) where
-  pub called-fine : none ≡ saidBy (check s) → body n 0 s ≡ callOf body n s
-  called-fine h = fine-by body n s (check s) h
+  pub called-fine : none ≡ saidBy (checkIn s) → body n 0 s ≡ callOf body n s
+  called-fine h = fine-by body n s (checkIn s) h
 
-  pub called-bad : (x : Said) → some x ≡ saidBy (check s) → stopAt x 0 s ≡ callOf body n s
-  called-bad x h = bad-by body n s (check s) x h
+  pub called-bad : (x : Said) → some x ≡ saidBy (checkIn s) → stopAt x 0 s ≡ callOf body n s
+  called-bad x h = bad-by body n s (checkIn s) x h
 
 pub record Passed (m : ℕ) (s : Settings) (j depth : ℕ) : Type 0 where
   pub some-cells : 1 ≤ m

@@ -51,12 +51,16 @@ checkOf m s j depth =
     (cond (badSettings s) (some 10)
     (cond (ltb j depth) (some 11) none))
 
+-- the same, for a call on s
+abbrev pub checkIn : State → Option ℕ
+checkIn s = checkOf (length (s .cells)) (s .settings) (capacityOf (s .journal)) (s .depth)
+
 abbrev pub called : Option ℕ → (ℕ → ℕ → State → Out) → ℕ → State → Out
 called (some k) body n s = stopAt (plainly k) 0 s
 called none body n s = body n 0 s
 
 abbrev pub callOf : (ℕ → ℕ → State → Out) → ℕ → State → Out
-callOf body n s = called (checkOf (length (s .cells)) (s .settings) (capacityOf (s .journal)) (s .depth)) body n s
+callOf body n s = called (checkIn s) body n s
 
 -- A run of budget n, and back by n.
 abbrev pub runOf : ℕ → State → Out

@@ -17,7 +17,8 @@ use Rattle.machine.specs.State.{State, capacityOf, writeIf, entriesIn, firstSpe
 use Rattle.journal.specs.Journal.{writesIn, settledOf, settingsAfter, cellsAfter, regsAfter, entryOf, endedOf, applyOf}
 use Rattle.step.specs.Step.{actionIn, refusalOf, effectIn, moved, stepOf}
 use Rattle.effect.specs.Refusal.{refusedBy}
-use Rattle.machine.proofs.Lawful.{Ready, Lawful, Words, set-words}
+use Rattle.machine.specs.Lawful.{Ready, Lawful, Words}
+use Rattle.machine.proofs.Words.{set-words}
 use Rattle.cell.proofs.Fields.{decoded-in-range}
 use Rattle.effect.specs.declared.Write.{Write}
 use Rattle.effect.proofs.Safe.{Safe, safe}

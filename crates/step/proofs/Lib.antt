@@ -1,3 +1,4 @@
 pub mod Steps
 pub mod Keeps
 pub mod Named
+pub mod Repeats

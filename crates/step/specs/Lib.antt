@@ -1,2 +1,3 @@
 pub mod Step
 pub mod Inner
+pub mod Steps
