@@ -23,7 +23,7 @@ use Rattle.job.proofs.Walk.{SoFar}
 use Rattle.job.proofs.Rules.{and-left, and-right}
 use Rattle.text.proofs.Adds.{sets-append}
 use Rattle.saver.proofs.Pieces.{head-length, length-record, run-payload, value-none, value-record, value-payload, setup-none, setup-record, setup-payload}
-use Rattle.demand.specs.Reload.{Words32}
+use Rattle.machine.specs.Lawful.{Words}
 
 -- ---- a number is read as it was written
 
@@ -239,7 +239,7 @@ module _ (i v m : ℕ) (past : SoFar) (c : Content) (rest : List ℕ) (final : C
   reads-value = by-value (eqb v 0) refl
 
 pub reads-values : (regs : List ℕ) (i m : ℕ) (past : SoFar) (c : Content) (rest : List ℕ) (final : Content)
-    → past .rank ≤ 2 → past .next ≤ i → i + length regs ≤ 256 → Words32 regs → Zeros (c .regs) i
+    → past .rank ≤ 2 → past .next ≤ i → i + length regs ≤ 256 → Words regs → Zeros (c .regs) i
     → ((seen : SoFar) → seen .rank ≤ 2 → Reads m seen (record { regs = sets (c .regs) i regs; settings = c .settings; cells = c .cells }) rest final)
     → Reads m past c (valuesFrom i regs ++ rest) final
 unfolding valuesFrom
@@ -255,7 +255,7 @@ reads-values (v ∷ regs) i m past c rest final p q b w z r =
 abbrev runPayload : ℕ → List ℕ → List ℕ
 runPayload base run = bytesOf 2 base ++ wordBytes run
 
-words-back : (l : List ℕ) → Words32 l → wordsOf (length l) (wordBytes l) ≡ l
+words-back : (l : List ℕ) → Words l → wordsOf (length l) (wordBytes l) ≡ l
 unfolding wordsOf wordBytes bound
 words-back [] w = refl
 words-back (v ∷ l) w = rw (read-number 4 v (wordBytes l) (w 0), drop-bytes 4 v (wordBytes l), words-back l (λ i. w (suc i)))
@@ -268,7 +268,7 @@ module _ (base : ℕ) (run : List ℕ) where
   count-back : countOf (runPayload base run) ≡ length run
   count-back = rw (run-payload base run) (omega arith)
 
-  cells-back : Words32 run → cellsIn (runPayload base run) ≡ run
+  cells-back : Words run → cellsIn (runPayload base run) ≡ run
   cells-back w = rw (count-back, drop-bytes 2 base (wordBytes run)) (words-back run w)
 
   run-fits : 1 ≤ length run → length run ≤ mostCells → fitsOf (kindBy 1) (length (runPayload base run)) ≡ true
@@ -277,7 +277,7 @@ module _ (base : ℕ) (run : List ℕ) where
       rw (run-payload base run, le-leb 6 (2 + 4 * length run) (omega arith), le-leb (2 + 4 * length run) 65538 (omega arith), eq-eqb ((2 + 4 * length run - 2) % 4) 0 (omega arith))
 
 reads-run : (run : List ℕ) (base m : ℕ) (past : SoFar) (c : Content) (rest : List ℕ) (final : Content)
-    → m ≤ mostCells → past .rank ≤ 1 → past .end ≤ base → past .next ≤ 0 → base + length run ≤ m → Words32 run
+    → m ≤ mostCells → past .rank ≤ 1 → past .end ≤ base → past .next ≤ 0 → base + length run ≤ m → Words run
     → ((seen : SoFar) → seen .rank ≤ 1 → seen .end ≤ base + length run → seen .next ≤ 0
     → Reads m seen (record { regs = c .regs; settings = c .settings; cells = sets (c .cells) base run }) rest final)
     → Reads m past c (runRecord base run ++ rest) final
@@ -300,17 +300,17 @@ reads-run (v ∷ run) base m past c rest final few p e n b w r =
     (subst (λ (x : List ℕ). Reads m (pastOf past (kindBy 1) payload) (record { regs = c .regs; settings = c .settings; cells = x }) rest final) (sym k)
     (r (pastOf past (kindBy 1) payload) (omega arith) (omega arith) n))
 
-words-append : (a b : List ℕ) → Words32 a → Words32 b → Words32 (a ++ b)
+words-append : (a b : List ℕ) → Words a → Words b → Words (a ++ b)
 words-append [] b u v i = v i
 words-append (x ∷ a) b u v zero = u 0
 words-append (x ∷ a) b u v (suc i) = words-append a b (λ j. u (suc j)) v i
 
-one-word : (v : ℕ) → v < 2 ^ 32 → Words32 (v ∷ [])
+one-word : (v : ℕ) → v < 2 ^ 32 → Words (v ∷ [])
 one-word v h zero = h
 one-word v h (suc i) = omega arith
 
 pub reads-runs : (cells run : List ℕ) (base m : ℕ) (past : SoFar) (c : Content) (rest : List ℕ) (final : Content)
-    → m ≤ mostCells → past .rank ≤ 1 → past .end ≤ base → past .next ≤ 0 → base + length run + length cells ≤ m → Words32 run → Words32 cells → Zeros (c .cells) base
+    → m ≤ mostCells → past .rank ≤ 1 → past .end ≤ base → past .next ≤ 0 → base + length run + length cells ≤ m → Words run → Words cells → Zeros (c .cells) base
     → ((seen : SoFar) → seen .rank ≤ 1 → seen .next ≤ 0 → Reads m seen (record { regs = c .regs; settings = c .settings; cells = sets (c .cells) base (run ++ cells) }) rest final)
     → Reads m past c (runsFrom base run cells ++ rest) final
 unfolding runsFrom

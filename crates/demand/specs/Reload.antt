@@ -1,21 +1,18 @@
 -- Saving and loading: what can be saved, and what a load of the saved job gives.
-use Prim.Native.Nat.{ℕ, _^_, _<_, _≤_}
+use Prim.Native.Nat.{ℕ, _≤_}
 use mathlib.Core.Path.{_≡_}
 use mathlib.Core.List.{List}
-use lib.ListN.{length, getD}
+use lib.ListN.{length}
 use Rattle.machine.specs.State.{InRange, mostCells}
+use Rattle.machine.specs.Lawful.{Words}
 use Rattle.machine.specs.declared.Machine.{Machine}
 use Rattle.job.specs.Job.{Load}
-
--- 32-bit words
-abbrev pub Words32 : List ℕ → Type 0
-Words32 l = (i : ℕ) → getD l i 0 < 2 ^ 32
 
 -- Registers 0 to 255 hold 32 bits, and so does each cell.
 pub record Held (m : Machine) (cells : List ℕ) : Type 0 where
   pub registers : length (m .regs) ≡ 256
-  pub values : Words32 (m .regs)
-  pub words : Words32 cells
+  pub values : Words (m .regs)
+  pub words : Words cells
 
 -- What a save does not refuse for 12 or 10: 1 to 16,384 cells, settings in range. The depth may be any.
 pub record Saveable (m : Machine) (cells : List ℕ) : Type 0 where
