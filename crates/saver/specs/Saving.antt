@@ -1,14 +1,13 @@
 -- The job that a machine and its cells are saved as: document 01, 'Lines and jobs', from 'Saving writes' on.
 use Prim.Native.Nat.{ℕ, _+_}
-use mathlib.Core.Bool.{Bool, true, false, cond, _&&_}
-use mathlib.Core.Option.{Option, none, some}
+use mathlib.Core.Bool.{Bool, cond, _&&_}
 use mathlib.Core.List.{List, [], _∷_, _++_}
 use lib.Dec.{ltb, eqb}
 use lib.ListN.{length}
 use lib.Seq.{sets}
 use Rattle.machine.specs.declared.Settings.{Settings}
 use Rattle.machine.specs.declared.Machine.{Machine}
-use Rattle.machine.specs.State.{freshSettings, badCells, badSettings}
+use Rattle.machine.specs.State.{badCells, badSettings}
 use Rattle.saver.specs.declared.Saved.{Saved}
 use Rattle.saver.specs.declared.Saved.the-variants.{Written, Unsaved}
 use Rattle.job.specs.Job.{bytesOf}
