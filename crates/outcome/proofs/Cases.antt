@@ -9,7 +9,8 @@ use Rattle.runner.specs.Calls.{runOf}
 use Rattle.job.specs.declared.Loaded.{Loaded}
 use Rattle.job.specs.declared.Answer.the-variants.{Done, Refused}
 use Rattle.refusal.specs.declared.Refusal.{Refusal}
-use Rattle.job.specs.Job.{loadOf, loadWith}
+use Rattle.job.specs.Job.{loadOf}
+use Rattle.job.specs.Answers.{loadWith}
 use Rattle.refusal.specs.Refusal.{numberOf}
 use Rattle.refusal.proofs.Named.{numbered}
 use Rattle.outcome.specs.Outcome.{refusedTo, ranTo, outcomeOf, mostInput, budget}
