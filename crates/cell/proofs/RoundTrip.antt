@@ -11,7 +11,8 @@ use Rattle.cell.specs.declared.Instruction.the-variants as instruction
 use Rattle.cell.specs.declared.Operands.the-variants as operands
 use Rattle.cell.specs.declared.Encoded.{Encoded}
 use Rattle.cell.specs.declared.Encoded.the-variants.{Cell, ReservedOpcode, OtherForm}
-use Rattle.cell.specs.Cell.{legal, immediate, formOf, opcodeOf, nOf, mOf, lOf, immOf, readAs, decodeOf, Reply, encodedReply, writeAs, encodeOf}
+use Rattle.cell.specs.Cell.{legal, immediate, formOf, opcodeOf, nOf, mOf, lOf, immOf, readAs, decodeOf, Reply, writeAs, encodeOf}
+use Rattle.cell.specs.Answers.{encodedReply}
 use Rattle.cell.proofs.Tests.{never}
 
 -- number 0 and the cell

@@ -1,6 +1,7 @@
 // A cell as an instruction: decoding it, and encoding it from an opcode and operands.
 ghost use mathlib.Core.Path.{_≡_};
-ghost use Rattle.cell.specs.Cell.{within as inside, legal as legalOf, immediate as immediateOf, formOf, decodeOf, encodeOf, encodedReply};
+ghost use Rattle.cell.specs.Cell.{within as inside, legal as legalOf, immediate as immediateOf, formOf, decodeOf, encodeOf};
+ghost use Rattle.cell.specs.Answers.{encodedReply};
 
 // How the 24 bits below an opcode are read: three registers, a register and an immediate, or not at all.
 pub enum Form {

@@ -15,14 +15,17 @@ use Rattle.cell.specs.declared.Instruction.{Instruction}
 use Rattle.cell.specs.declared.Operands.{Operands}
 use Rattle.cell.specs.declared.Encoded.{Encoded}
 use Rattle.cell.specs.Cell as cell
+use Rattle.cell.specs.Answers.{encodedReply}
 use Rattle.cell.proofs.RoundTrip as cells
 use Rattle.text.specs.Text.{Added}
 use Rattle.text.proofs.Adds as text
 use Rattle.line.specs.declared.Printed.{Printed}
 use Rattle.line.specs.Line as line
+use Rattle.line.specs.Answers.{shownOf}
 use Rattle.line.proofs.Lines as lines
 use Rattle.reader.specs.declared.ReadLine.{ReadLine}
 use Rattle.reader.specs.Reader as reader
+use Rattle.reader.specs.Answers.{readReply}
 use Rattle.reader.proofs.RoundTrip as trips
 use Rattle.machine.specs.declared.Settings.{Settings}
 use Rattle.effect.specs.declared.instruction.Considered.{Considered}
@@ -48,7 +51,9 @@ use Rattle.job.specs.declared.Loaded.{Loaded}
 use Rattle.saver.specs.declared.Saved.{Saved}
 use Rattle.saver.specs.declared.Saved.the-variants as save
 use Rattle.job.specs.Job as job
+use Rattle.job.specs.Answers.{noticeOf, loadWith}
 use Rattle.saver.specs.Saving as saving
+use Rattle.saver.specs.Answers.{saveWith}
 use Rattle.refusal.specs.Refusal.{numberOf}
 use Rattle.refusal.proofs.Named.{heard, heard-number}
 
@@ -71,19 +76,19 @@ form-once opcode r t = unique
 pub decode-once : (c : ℕ) (r t : Instruction) → r ≡ cell.decodeOf c → t ≡ cell.decodeOf c → r ≡ t
 decode-once c r t = unique
 
-pub encode-once : (opcode : ℕ) (o : Operands) (r t : Encoded) → cell.encodedReply r ≡ cell.encodeOf opcode o → cell.encodedReply t ≡ cell.encodeOf opcode o → r ≡ t
+pub encode-once : (opcode : ℕ) (o : Operands) (r t : Encoded) → encodedReply r ≡ cell.encodeOf opcode o → encodedReply t ≡ cell.encodeOf opcode o → r ≡ t
 encode-once opcode o r t p q = cells.said-once r t (unique p q)
 
 -- what is put into a text, whatever the piece: `put`, `put_decimal`, `put_number`, `put_word`
 pub put-once : {before piece after after' : List ℕ} {at r t : ℕ} → Added before at piece after r → Added before at piece after' t → (after ≡ after') × (r ≡ t)
 put-once = text.once
 
-pub print-once : (c : ℕ) (before : List ℕ) (r t : Printed) (room room' : List ℕ) → line.shownOf r room ≡ line.printOf c before → line.shownOf t room' ≡ line.printOf c before
+pub print-once : (c : ℕ) (before : List ℕ) (r t : Printed) (room room' : List ℕ) → shownOf r room ≡ line.printOf c before → shownOf t room' ≡ line.printOf c before
     → (r ≡ t) × (room ≡ room')
 print-once c before r t room room' p q = lines.print-once r t room room' (unique p q)
 
 -- a cell that is read is one of 32 bits
-pub read-once : (text : List ℕ) (r t : ReadLine) → trips.Small r → reader.Reads text (reader.readReply r) → reader.Reads text (reader.readReply t) → r ≡ t
+pub read-once : (text : List ℕ) (r t : ReadLine) → trips.Small r → reader.Reads text (readReply r) → reader.Reads text (readReply t) → r ≡ t
 read-once = trips.read-once
 
 -- the stop or the effect, whether it is said in short or at length
@@ -149,33 +154,33 @@ answered (some why) offset = Refused why offset
 abbrev loaded : job.Load → Loaded
 loaded l = record { machine = l .machine; answer = answered (heard (l .said .number)) (l .said .offset) }
 
-answer-said : (a : Answer) → answered (heard (job.noticeOf a .number)) (job.noticeOf a .offset) ≡ a
+answer-said : (a : Answer) → answered (heard (noticeOf a .number)) (noticeOf a .offset) ≡ a
 answer-said Done = refl
 answer-said (Refused why offset) = rw (heard-number why)
 
-loaded-with : (r : Loaded) (cells : List ℕ) → loaded (job.loadWith r cells) ≡ r
+loaded-with : (r : Loaded) (cells : List ℕ) → loaded (loadWith r cells) ≡ r
 loaded-with r cells = rw (answer-said (r .answer))
 
 abbrev told : Option Refusal → ℕ → Saved
 told none size = save.Written size
 told (some why) size = save.Unsaved why
 
-saved-with : (r : Saved) (room : List ℕ) → told (heard (saving.saveWith r room .number)) (saving.saveWith r room .length) ≡ r
+saved-with : (r : Saved) (room : List ℕ) → told (heard (saveWith r room .number)) (saveWith r room .length) ≡ r
 saved-with (save.Written n) room = refl
 saved-with (save.Unsaved why) room = rw (heard-number why)
 
-room-with : (r : Saved) (room : List ℕ) → saving.saveWith r room .room ≡ room
+room-with : (r : Saved) (room : List ℕ) → saveWith r room .room ≡ room
 room-with (save.Written n) room = refl
 room-with (save.Unsaved why) room = refl
 
-pub load-once : (bytes before : List ℕ) (r t : Loaded) (cells cells' : List ℕ) → job.loadWith r cells ≡ job.loadOf bytes before → job.loadWith t cells' ≡ job.loadOf bytes before
+pub load-once : (bytes before : List ℕ) (r t : Loaded) (cells cells' : List ℕ) → loadWith r cells ≡ job.loadOf bytes before → loadWith t cells' ≡ job.loadOf bytes before
     → (r ≡ t) × (cells ≡ cells')
 load-once bytes before r t cells cells' p q =
     let e = unique p q in
     (sym (loaded-with r cells) ∙ ap loaded e ∙ loaded-with t cells', ap (λ (l : job.Load). l .cells) e)
 
-pub save-once : (m : Machine) (cells before : List ℕ) (r t : Saved) (room room' : List ℕ) → saving.saveWith r room ≡ saving.saveOf m cells before
-    → saving.saveWith t room' ≡ saving.saveOf m cells before → (r ≡ t) × (room ≡ room')
+pub save-once : (m : Machine) (cells before : List ℕ) (r t : Saved) (room room' : List ℕ) → saveWith r room ≡ saving.saveOf m cells before
+    → saveWith t room' ≡ saving.saveOf m cells before → (r ≡ t) × (room ≡ room')
 save-once m cells before r t room room' p q =
     let e = unique p q in
     (sym (saved-with r room) ∙ ap (λ (s : saving.Save). told (heard (s .number)) (s .length)) e ∙ saved-with t room', sym (room-with r room) ∙ ap (λ (s : saving.Save). s .room) e ∙ room-with t room')

@@ -5,8 +5,8 @@ use Prim.Native.Nat.{ℕ, zero, suc, _+_, _-_}
 use mathlib.Core.Path.{_≡_, refl}
 use mathlib.Core.Bool.{Bool, true, false, not}
 use mathlib.Core.Option.{Option, none, some}
-use mathlib.Core.List.{List, []}
-use lib.Dec.{leb, ltb, eqb}
+use mathlib.Core.List.{List}
+use lib.Dec.{leb, ltb}
 use lib.ListN.{length, drop}
 use Rattle.cell.specs.declared.Form.{Form}
 use Rattle.cell.specs.declared.Form.the-variants as form
@@ -16,12 +16,12 @@ use Rattle.cell.specs.Cell as cell
 use Rattle.line.specs.Line as line
 use Rattle.reader.specs.declared.ReadLine.{ReadLine}
 use Rattle.reader.specs.declared.ReadLine.the-variants.{Cell, NoLine}
-use Rattle.reader.specs.Reader as reader
+use Rattle.reader.specs.Answers.{readReply}
 use Rattle.machine.proofs.Tests.{picked}
 use Rattle.machine.specs.declared.Machine.{Machine}
 use Rattle.machine.specs.State.{badCells, badSettings}
 use Rattle.job.specs.Job.{Fate, refused, last, onward, Notice, refusalFrom, refusalIn, loadedBy, loadOf, fateOf, payloadFate, kindOf, sizeOf, payloadOf, knownOf, fitsOf, inOrder, withinOf, settingsFit, endsOf, pastOf, passed, followed, endOf, nothingYet}
-use Rattle.saver.specs.Saving.{Save, savedOf, saveOf, writtenIn}
+use Rattle.saver.specs.Saving.{Save, savedOf, saveOf}
 use Rattle.demand.specs.Demands.{listed, encodeSays, printSays, readSays, loadSays, saveSays}
 
 pub encode-said : (opcode : ℕ) (o : Operands) → listed encodeSays (cell.encodeOf opcode o .number) ≡ true
@@ -39,7 +39,7 @@ unfolding line.printOf listed
 print-said c room = picked (λ (s : line.Shown). listed printSays (s .number) ≡ true) (leb (length (line.lineOf c)) (length room)) _ _ (λ t. refl) (λ t. refl)
 
 -- what reading says is by its contract an answer's number
-pub read-said : (r : ReadLine) → listed readSays (reader.readReply r .number) ≡ true
+pub read-said : (r : ReadLine) → listed readSays (readReply r .number) ≡ true
 unfolding listed
 read-said (Cell c) = refl
 read-said NoLine = refl

@@ -6,8 +6,7 @@ use mathlib.Core.Bool.{Bool, true, false, cond, not, _&&_, _||_}
 use native.Mathlib.Omega.{arith}
 use lib.Dec.{eqb}
 use Rattle.half.specs.Half.{seOf}
-use Rattle.word.specs.declared.Asked.{Asked}
-use Rattle.word.specs.declared.Asked.the-variants.{Given, Turned, Other}
+use Rattle.word.specs.Operation.{Asked, Given, Turned, Other}
 use Rattle.word.specs.Word.{wrap, opOf, askedOf, operatedBy}
 use Rattle.cell.specs.declared.Form.{Form}
 use Rattle.cell.specs.declared.Form.the-variants as form

@@ -6,9 +6,7 @@ use mathlib.Core.List.{List}
 use native.Mathlib.Omega.{arith}
 use lib.Dec.{ltb, eqb}
 use lib.ListN.{getD}
-use Rattle.word.specs.declared.Asked.{Asked}
-use Rattle.word.specs.declared.Asked.the-variants.{Given, Turned, Other}
-use Rattle.word.specs.declared.Op.{Op}
+use Rattle.word.specs.Operation.{Asked, Given, Turned, Other, Op}
 use Rattle.half.specs.Half.{seOf, exOf}
 use Rattle.word.specs.Word.{askedOf}
 use Rattle.word.proofs.Bounds.{value-below}

@@ -9,7 +9,7 @@ use lib.Bits.{bitAnd, and-le-l, or-lt}
 use lib.Dec.{eqb}
 use lib.ListN.{length}
 use borrow.Author.Tests.{leb-false, eqb-true, eqb-false}
-use Rattle.word.specs.declared.Op.{Op}
+use Rattle.word.specs.Operation.{Op}
 use Rattle.word.proofs.Bounds.{raised-below}
 use Rattle.machine.specs.declared.Settings.{Settings}
 use Rattle.machine.specs.State.{State, firstSpecial, InRange}

@@ -3,9 +3,7 @@ use Prim.Native.Nat.{ℕ}
 use mathlib.Core.Bool.{Bool, cond}
 use mathlib.Core.List.{List, [], _∷_}
 use lib.Dec.{eqb}
-use Rattle.word.specs.declared.Op.{Op}
-use Rattle.word.specs.declared.Asked.{Asked}
-use Rattle.word.specs.declared.Asked.the-variants.{Given, Turned, Other}
+use Rattle.word.specs.Operation.{Op, Asked, Given, Turned, Other}
 use Rattle.word.specs.Word.{askedOf}
 use Rattle.cell.specs.declared.Instruction.{Instruction}
 use Rattle.cell.specs.declared.Instruction.the-variants.{Registers, Immediate, Reserved}

@@ -3,14 +3,14 @@ use Prim.Native.Nat.{ℕ, _+_, _*_, _/_, _%_, _^_}
 use mathlib.Core.Bool.{cond}
 use lib.Dec.{ltb}
 
--- se(x) is the 16-bit value sign-extended.
+-- se: the sign bit is copied into the 16 bits above
 unfoldable pub seOf : ℕ → ℕ
 seOf x = cond (ltb x 0x8000) x (0xFFFF0000 + x)
 
--- The 5-bit exponent field, sign-extended to 8 bits.
+-- five exponent bits as eight, the highest copied into the three above
 abbrev pub exponentOf : ℕ → ℕ
 exponentOf e = cond (ltb e 16) e (0b11100000 + e)
 
--- ex keeps the sign, sign-extends the 5-bit exponent field to 8 bits, and puts the 10 fraction bits above 13 zeros.
+-- ex, field by field: sign, exponent, and the fraction with 13 zeros below it
 unfoldable pub exOf : ℕ → ℕ
 exOf x = x / 2 ^ 15 * 2 ^ 31 + exponentOf (x / 2 ^ 10 % 2 ^ 5) * 2 ^ 23 + x % 2 ^ 10 * 2 ^ 13

@@ -2,14 +2,14 @@
 ghost use mathlib.Core.Path.{_≡_};
 ghost use Rattle.half.specs.Half.{seOf, exOf};
 
-// The 16-bit value sign-extended, in a form that becomes one instruction.
+// The sign bit copied upward, in a form that becomes one instruction.
 pub fn se(x: u16) -> u32
     ensures { λ r. ⌜ r ≡ seOf x ⌝ }
 {
     std::num::wrapping_sub_u32((x as u32 + 32768) % 65536, 32768)
 }
 
-// A half float's fields in their places: the sign, the exponent sign-extended, the fraction above 13 zeros.
+// A half float's fields in their places among 32 bits: sign, exponent and fraction.
 pub fn ex(x: u16) -> u32
     ensures { λ r. ⌜ r ≡ exOf x ⌝ }
 {

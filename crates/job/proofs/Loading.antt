@@ -11,7 +11,8 @@ use Rattle.machine.specs.State.{freshMachine, badCells}
 use Rattle.refusal.specs.declared.Refusal.{Refusal}
 use Rattle.job.specs.declared.Answer.{Answer}
 use Rattle.job.specs.declared.Answer.the-variants.{Done, Refused}
-use Rattle.job.specs.Job.{nothingYet, refusalFrom, Content, contentFrom, unnamed, noticeOf, loadedWith, refusalIn, loadOf}
+use Rattle.job.specs.Job.{nothingYet, refusalFrom, Content, contentFrom, unnamed, loadedWith, refusalIn, loadOf}
+use Rattle.job.specs.Answers.{noticeOf}
 use Rattle.job.specs.Inner.{refusalOf}
 
 unfolded : (job cells : List ℕ) → badCells (length cells) ≡ false → refusalIn (length cells) job ≡ refusalFrom (length job) (length cells) job 0 nothingYet

@@ -1,3 +1,4 @@
 pub mod Job
+pub mod Answers
 pub mod Inner
 pub mod Loads

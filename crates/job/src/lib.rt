@@ -1,6 +1,7 @@
 // Jobs: a machine and its cells as records of bytes, loaded.
 ghost use mathlib.Core.Path.{_≡_};
-ghost use Rattle.job.specs.Job.{loadOf, loadWith};
+ghost use Rattle.job.specs.Job.{loadOf};
+ghost use Rattle.job.specs.Answers.{loadWith};
 
 mod little;
 mod reading;

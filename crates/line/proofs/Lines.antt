@@ -11,7 +11,8 @@ use Rattle.text.specs.Text.{bytes, digits, decimal}
 use Rattle.mnemonic.specs.Mnemonic.{mnemonics, wordOf}
 use Rattle.line.specs.declared.Printed.{Printed}
 use Rattle.line.specs.declared.Printed.the-variants.{Length, NoRoom}
-use Rattle.line.specs.Line.{lineOf, Shown, shownOf, printOf}
+use Rattle.line.specs.Line.{lineOf, Shown, printOf}
+use Rattle.line.specs.Answers.{shownOf}
 
 -- document 01's lines, and a line of 24 bytes
 add-line : lineOf 0x10010203 ≡ bytes "ADD R1, R2, R3\n"

@@ -9,11 +9,8 @@ use Rattle.cell.specs.declared.Instruction.the-variants.{Registers, Immediate, 
 use Rattle.cell.specs.Cell.{decodeOf}
 use Rattle.text.specs.Text.{bytes, named}
 use Rattle.mnemonic.specs.Mnemonic.{wordOf}
-use Rattle.line.specs.declared.Printed.{Printed}
-use Rattle.line.specs.declared.Printed.the-variants.{Length, NoRoom}
 
--- A line is a mnemonic, a space, operands joined by ", ", and LF: `ADD R1, R2, R3`, `ADDI R5, #65533`.
--- A reserved cell prints as `CELL 33554432` and LF.
+-- an instruction's line, as `ADD R1, R2, R3` and `ADDI R5, #65533`, and that of a reserved cell, as `CELL 33554432`, ended by LF
 abbrev pub spelled : Instruction → List ℕ
 spelled (Registers x n m l) = wordOf x ++ named "R" n ++ named ", R" m ++ named ", R" l ++ bytes "\n"
 spelled (Immediate x n i) = wordOf x ++ named "R" n ++ named ", #" i ++ bytes "\n"
@@ -23,18 +20,13 @@ spelled (Reserved c) = named "CELL " c ++ bytes "\n"
 unfoldable pub lineOf : ℕ → List ℕ
 lineOf c = spelled (decodeOf c)
 
--- What printing shows: a refusal's number and length 0, or number 0 and the line's length; and the room.
+-- what printing shows: a refusal's number and 0, or 0 and the line's length; and the room
 pub record Shown : Type 0 where
   pub number : ℕ
   pub size : ℕ
   pub room : List ℕ
 
-abbrev pub shownOf : Printed → List ℕ → Shown
-shownOf (Length n) room = record { number = 0; size = n; room = room }
-shownOf NoRoom room = record { number = 31; size = 0; room = room }
-
--- Printing refuses 31 exactly if the lent room is shorter than the line, and writes nothing.
--- Printing keeps the room past its last byte.
+-- a line goes to the front of the room, whose rest stays; or there is too little room, which stays whole: 31
 abbrev pub placed : List ℕ → List ℕ → Shown
 placed line room =
     cond (leb (length line) (length room))

@@ -1,7 +1,8 @@
 // A cell as a line of text: printing it into lent room.
 ghost use mathlib.Core.Path.{_≡_};
 ghost use Rattle.text.specs.Text.{Added};
-ghost use Rattle.line.specs.Line.{spelled, lineOf, printOf, shownOf};
+ghost use Rattle.line.specs.Line.{spelled, lineOf, printOf};
+ghost use Rattle.line.specs.Answers.{shownOf};
 ghost use Rattle.cell.specs.declared.Instruction.the-variants.{Registers, Immediate, Reserved};
 use cell::Instruction;
 use mnemonic::put_word;

@@ -5,7 +5,7 @@ use Prim.Native.String.{String}
 use lib.ListN.{getD}
 use Rattle.text.specs.Text.{bytes}
 
--- The mnemonics in opcode order, eight to a row, from the source's headings. A reserved cell prints as `CELL 33554432`.
+-- The mnemonics in opcode order, eight to a row, as the source's headings have them; a reserved opcode has CELL.
 unfoldable pub mnemonics : List String
 mnemonics =
     "CPSWP" ∷ "LDST" ∷ "CELL" ∷ "LDLI" ∷ "LDUI" ∷ "LDLIZ" ∷ "LDLISE" ∷ "LDLIF" ∷
@@ -25,6 +25,6 @@ mnemonics =
     "CELL" ∷ "CELL" ∷ "CELL" ∷ "CELL" ∷ "CELL" ∷ "CELL" ∷ "CELL" ∷ "CELL" ∷
     "CELL" ∷ "BZ" ∷ "INT" ∷ []
 
--- a mnemonic, a space
+-- the mnemonic, and the space after it
 unfoldable pub wordOf : ℕ → List ℕ
 wordOf x = bytes (getD mnemonics x "CELL") ++ bytes " "

@@ -1,4 +1,5 @@
-pub mod Sizes
+pub mod Lengths
 pub mod Registers
 pub mod Cases
-pub mod Told
+pub mod Printed
+pub mod Once

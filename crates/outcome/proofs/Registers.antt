@@ -7,7 +7,7 @@ use native.Mathlib.Omega.{arith}
 use borrow.Author.Tests.{ne-eqb}
 use lib.ListN.{getD, take}
 use Rattle.text.specs.Text.{bytes, named}
-use Rattle.outcome.specs.Outcome.{registerText, registersText}
+use Rattle.outcome.specs.Told.{registerText, registersText}
 
 -- a register that is 0 has no line, and one that is not has one
 pub register-none : (i v : ℕ) → v ≡ 0 → registerText i v ≡ []

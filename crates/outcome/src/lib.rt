@@ -1,19 +1,83 @@
-// The outcome of a job, as text: the job is loaded and run, and what became of it is put into lent room.
+// What becomes of a job: it is loaded and run, which gives a value, and the value is put as text into lent room.
 ghost use mathlib.Core.Path.{_≡_};
 ghost use Prim.Native.Nat.{_≤_, _<_};
 ghost use lib.ListN.{length, take};
+ghost use Rattle.machine.specs.State.{freshMachine};
 ghost use Rattle.machine.specs.Stops.{saidOf};
 ghost use Rattle.text.specs.Text.{Added};
-ghost use Rattle.outcome.specs.Outcome.{refusedText, exitText, registerText, registersText, ranText, outcomeOf, Told, Leaves};
+ghost use Rattle.outcome.specs.Outcome.{outcomeOf};
+ghost use Rattle.outcome.specs.declared.End.the-variants.{Refused};
+ghost use Rattle.outcome.specs.Answers.{endOf, outcomeWith};
+ghost use Rattle.outcome.specs.Told.{refusedText, exitText, registerText, registersText, ranText, toldOf, Told};
 use job::Answer;
-use runner::Ran;
+use machine::Machine;
+use machine::Stop;
 use text::put;
 use text::put_number;
 
-// An input above this is refused.
-const MOST_INPUT: usize = 32768;
+// What `runjob` lends and grants to a job: the cells, the journal's entries and its words, the budget; the longest input, and the
+// longest text.
+pub struct Sizes;
 
-const BUDGET: u64 = 400;
+impl Sizes {
+    pub const CELLS: usize = 4096;
+
+    pub const ENTRIES: usize = 400;
+
+    pub const WORDS: usize = 8 * Sizes::ENTRIES;
+
+    pub const BUDGET: u64 = 400;
+
+    pub const INPUT: usize = 32768;
+
+    pub const TEXT: usize = 4164;
+}
+
+// How a job ended: refused, with the number and the offset, or run, with the stop and the count of steps.
+pub enum End {
+    Refused { number: u64, offset: u64 },
+    Ran { stop: Stop, count: u64 },
+}
+
+// What became of a job: its end, and the machine. That of a refused job is fresh.
+pub struct Outcome {
+    pub end: End,
+    pub machine: Machine,
+}
+
+// A refused job.
+fn refused(number: u64, offset: u64) -> Outcome
+    ensures { λ r. ⌜ r ≡ record { end = Refused number offset; machine = freshMachine } ⌝ }
+{
+    Outcome {
+        end: End::Refused { number, offset },
+        machine: Machine::fresh(),
+    }
+}
+
+// Loads a job into the cells and runs it over them and the journal.
+pub fn run_job(input: &[u8], cells: &mut [u32], journal: &mut [u32]) -> Outcome
+    ensures { λ r. ⌜ outcomeWith r (now (cells .exit)) (now (journal .exit)) ≡ outcomeOf (now (input .entry)) (now (cells .entry)) (now (journal .entry)) ⌝ }
+{
+    if Sizes::INPUT < input.len() {
+        return refused(50, Sizes::INPUT as u64);
+    }
+    let loaded = job::load(input, cells);
+    let answer = loaded.answer;
+    match answer {
+        Answer::Refused { why, offset } => refused(why.number(), offset as u64),
+        Answer::Done => {
+            let ran = runner::run(loaded.machine, cells, journal, Sizes::BUDGET);
+            let machine = ran.machine;
+            let stop = ran.stop;
+            let count = ran.count;
+            Outcome {
+                end: End::Ran { stop, count },
+                machine,
+            }
+        }
+    }
+}
 
 // Puts the line of a refusal.
 fn put_refused(text: &mut [u8], at: usize, number: u64, offset: u64) -> usize
@@ -65,45 +129,23 @@ fn put_registers(text: &mut [u8], at: usize, regs: &[u32; 256]) -> usize
     end
 }
 
-// Puts what became of a run.
-fn put_ran(text: &mut [u8], at: usize, ran: Ran) -> usize
-    ensures { λ r. ⌜ Told (now (text .entry)) at (ranText (saidOf (ran .stop) .number) (ran .count) (ran .machine .regs) (ran .machine .settings .flags)) (now (text .exit)) r ⌝ }
+// Puts the lines of a run.
+fn put_ran(text: &mut [u8], at: usize, stop: Stop, count: u64, m: Machine) -> usize
+    ensures { λ r. ⌜ Told (now (text .entry)) at (ranText (saidOf stop .number) count m) (now (text .exit)) r ⌝ }
 {
-    let m = ran.machine;
-    let stop = ran.stop;
     let regs = m.regs;
     let settings = m.settings;
-    let a = put_exit(
-        text,
-        at,
-        stop.number(),
-        ran.count,
-        regs[255],
-        settings.flags,
-    );
+    let a = put_exit(text, at, stop.number(), count, regs[255], settings.flags);
     put_registers(text, a, &regs)
 }
 
-// Loads a job into the cells, runs it over them and the journal, and puts what became of it into a text. Answers where that ends.
-pub fn run_job(
-    text: &mut [u8],
-    at: usize,
-    input: &[u8],
-    cells: &mut [u32],
-    journal: &mut [u32],
-) -> usize
-    ensures { λ r. ⌜ Leaves (outcomeOf (now (input .entry)) (now (cells .entry)) (now (journal .entry))) (now (text .entry)) at (now (cells .exit)) (now (journal .exit)) (now (text .exit)) r ⌝ }
+// Puts what became of a job into a text from a place on, and answers where that ends.
+pub fn put_outcome(text: &mut [u8], at: usize, outcome: Outcome) -> usize
+    ensures { λ r. ⌜ Told (now (text .entry)) at (toldOf (endOf (outcome .end)) (outcome .machine)) (now (text .exit)) r ⌝ }
 {
-    if MOST_INPUT < input.len() {
-        return put_refused(text, at, 50, 32768);
-    }
-    let loaded = job::load(input, cells);
-    let answer = loaded.answer;
-    match answer {
-        Answer::Refused { why, offset } => put_refused(text, at, why.number(), offset as u64),
-        Answer::Done => {
-            let ran = runner::run(loaded.machine, cells, journal, BUDGET);
-            put_ran(text, at, ran)
-        }
+    let end = outcome.end;
+    match end {
+        End::Refused { number, offset } => put_refused(text, at, number, offset),
+        End::Ran { stop, count } => put_ran(text, at, stop, count, outcome.machine),
     }
 }

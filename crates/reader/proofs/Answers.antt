@@ -21,7 +21,8 @@ use Rattle.text.specs.Text.{bytes, decimal}
 use Rattle.mnemonic.specs.Mnemonic.{wordOf}
 use Rattle.line.specs.Line.{spelled, lineOf}
 use Rattle.line.proofs.Sizes.{line-spelled}
-use Rattle.reader.specs.Reader.{readReply, Reads}
+use Rattle.reader.specs.Reader.{Reads}
+use Rattle.reader.specs.Answers.{readReply}
 use Rattle.reader.specs.Reading.{Taken, taken, missing, numberOf, fieldOf, wordFrom, ended, refused, finished, onTaken, registersOf, immediateOf, reservedOf, cellOf, restOf, readOf}
 use Rattle.cell.proofs.Tests.{never, both-left, both-right}
 use Rattle.reader.proofs.Numbers.{number-back, number-true, field-back, field-true}

@@ -13,7 +13,8 @@ use Rattle.line.specs.Line.{lineOf, Shown, placed, printOf}
 use Rattle.line.proofs.Lines.{printed}
 use Rattle.reader.specs.declared.ReadLine.{ReadLine}
 use Rattle.reader.specs.declared.ReadLine.the-variants.{Cell, NoLine}
-use Rattle.reader.specs.Reader.{readReply, Reads}
+use Rattle.reader.specs.Reader.{Reads}
+use Rattle.reader.specs.Answers.{readReply}
 use Rattle.reader.specs.Reading.{readOf}
 use Rattle.reader.proofs.Answers.{read-back}
 

@@ -1,6 +1,6 @@
 -- Pieces stored one after the other, and the pieces of a saved job: where each begins, and how long they are at most.
 -- Assumes nothing.
-use Prim.Native.Nat.{ℕ, suc, _+_, _-_, _*_, _/_, _%_, _≤_, _<_}
+use Prim.Native.Nat.{ℕ, zero, suc, _+_, _-_, _*_, _/_, _%_, _^_, _≤_, _<_}
 use mathlib.Core.Path.{refl, sym, ap, _≡_, _∙_}
 use mathlib.Core.Bool.{Bool, true, false, cond}
 use mathlib.Core.List.{List, [], append-assoc, append-nil, _∷_, _++_}
@@ -8,7 +8,7 @@ use native.Mathlib.Nat.{add-zero}
 use native.Mathlib.Numerals.{add-one}
 use native.Mathlib.Omega.{arith}
 use lib.Dec.{eqb}
-use lib.ListN.{length, getD, set, take, drop, length-append, length-drop, drop-of-length-le}
+use lib.ListN.{length, getD, take, drop, length-append, length-drop, drop-of-length-le}
 use lib.Seq.{sets, length-sets, drop-cons, drop-drop}
 use borrow.Author.Tests.{eq-eqb, ne-eqb}
 use Rattle.machine.specs.declared.Settings.{Settings}
@@ -20,18 +20,19 @@ use Rattle.saver.specs.Saving.{recordOf, wordBytes, runRecord, runsFrom,
 use Rattle.saver.specs.Inner.{Stored, Fits, spanOf}
 use Rattle.job.proofs.Numbers.{length-bytes}
 
--- one byte of a number stored
-pub put-turn : (room : List ℕ) (at width i v : ℕ) → i < width
-    → sets (set room (at + i) (v % 256)) (at + (i + 1)) (bytesOf (width - (i + 1)) (v / 256)) ≡ sets room (at + i) (bytesOf (width - i) v)
+-- the four bytes of a number, and the first of them
+pub four-bytes : (v : ℕ) → v < 2 ^ 32 → v % 256 ∷ v / 256 % 256 ∷ v / 65536 % 256 ∷ v / 16777216 ∷ [] ≡ bytesOf 4 v
 unfolding bytesOf
-put-turn room at width i v h =
-    let w : width - i ≡ suc (width - (i + 1)) = omega arith in
-    let n : at + (i + 1) ≡ suc (at + i) = omega arith in
-    rw (w, n)
+four-bytes v h =
+    let third : v / 65536 ≡ v / 256 / 256 = omega arith in
+    let last : v / 16777216 ≡ v / 256 / 256 / 256 % 256 = omega arith in
+    rw (third, last)
 
-pub put-over : (room : List ℕ) (at width i v : ℕ) → width ≤ i → room ≡ sets room (at + i) (bytesOf (width - i) v)
+pub first-bytes : (width k v : ℕ) → width ≤ k → take width (bytesOf k v) ≡ bytesOf width v
 unfolding bytesOf
-put-over room at width i v h = let w : width - i ≡ 0 = omega arith in rw w
+first-bytes zero k v h = refl
+first-bytes (suc width) zero v h = absurd (omega arith)
+first-bytes (suc width) (suc k) v h = ap (λ (l : List ℕ). v % 256 ∷ l) (first-bytes width k (v / 256) (omega arith))
 
 -- a piece stored where another ends
 pub stored-then : (p q : List ℕ) {l m n : List ℕ} {at k r : ℕ} → Stored l at p m k → Stored m k q n r → Stored l at (p ++ q) n r

@@ -1,6 +1,7 @@
 // A machine and its cells saved as a job.
 ghost use mathlib.Core.Path.{_≡_};
-ghost use Rattle.saver.specs.Saving.{saveOf, saveWith};
+ghost use Rattle.saver.specs.Saving.{saveOf};
+ghost use Rattle.saver.specs.Answers.{saveWith};
 
 mod little;
 mod writing;

@@ -7,8 +7,7 @@ use lib.Dec.{ltb}
 use mathlib.Core.Bool.{Bool, true, false}
 use mathlib.Core.Path.{refl}
 use borrow.Author.Tests.{lt-leb, ne-eqb, ltb-false}
-use Rattle.word.specs.declared.Asked.the-variants.{Given, Turned, Other}
-use Rattle.word.specs.declared.Op.the-variants.{Add, Adc, Sub, Sbb, Mul, Udiv, Sdiv, Mod, And, Or, Xor, Nand, Lnand, Lsh, Ursh, Srsh, Ugt, Sgt, Eq}
+use Rattle.word.specs.Operation.{Given, Turned, Other, Add, Adc, Sub, Sbb, Mul, Udiv, Sdiv, Mod, And, Or, Xor, Nand, Lnand, Lsh, Ursh, Srsh, Ugt, Sgt, Eq}
 use Rattle.word.specs.Word.{opOf, askedOf}
 
 module _ {x : ℕ} where

@@ -13,8 +13,7 @@ use lib.Signed.{mag, ltZ, leZ, quotZ, shrZ, mag-shr}
 use mir.Syntax.{w32}
 use mir.Val.{ofZ}
 use mir.ValLaws.{toZ-fits}
-use Rattle.word.specs.declared.Op.{Op}
-use Rattle.word.specs.declared.Op.the-variants.{Add, Adc, Sub, Sbb, Mul, Udiv, Sdiv, Mod, And, Or, Xor, Nand, Lnand, Lsh, Ursh, Srsh, Ugt, Sgt, Eq}
+use Rattle.word.specs.Operation.{Op, Add, Adc, Sub, Sbb, Mul, Udiv, Sdiv, Mod, And, Or, Xor, Nand, Lnand, Lsh, Ursh, Srsh, Ugt, Sgt, Eq}
 use Rattle.word.specs.Word.{carryOf, borrowOf, signed, truth, when, sdivBy, lshBy, urshBy, srshBy, writtenOf}
 
 -- the flags g, all written as 1 or all as 0

@@ -45,36 +45,6 @@ impl Flag {
     pub const TERMINATION: u32 = 256;
 }
 
-// The operations of opcodes 16 to 34.
-pub enum Op {
-    Add,
-    Adc,
-    Sub,
-    Sbb,
-    Mul,
-    Udiv,
-    Sdiv,
-    Mod,
-    And,
-    Or,
-    Xor,
-    Nand,
-    Lnand,
-    Lsh,
-    Ursh,
-    Srsh,
-    Ugt,
-    Sgt,
-    Eq,
-}
-
-// How an opcode asks for an operation: on its operands as they come, on its operands turned, or not at all.
-pub enum Asked {
-    Given(Op),
-    Turned(Op),
-    Other,
-}
-
 // What an operation writes: its value, the flags that it governs, and those of them that become 1.
 pub struct Written {
     pub value: u32,

@@ -1,6 +1,6 @@
 -- `outcome::put_exit` meets its contract: the pieces, put one after the other, are the line.
 use Rattle.text.proofs.Adds.{added-then}
-use Rattle.outcome.proofs.Sizes.{exit-short}
+use Rattle.outcome.proofs.Lengths.{exit-short}
 use borrow.Author.Needs.{needs}
 use Rattle.outcome.proofs.put_exit.Statement.{statement}
 use Rattle.outcome.proofs.put_exit.Tie as tie

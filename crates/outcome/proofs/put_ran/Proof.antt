@@ -1,10 +1,9 @@
 -- `outcome::put_ran` meets its contract: the line of the run, and then those of the registers.
 use lib.ListN.{take}
 use Rattle.machine.specs.State.{pcOf}
-use Rattle.outcome.specs.Outcome.{exitText, registersText}
 use Rattle.text.proofs.Adds.{added-then}
-use Rattle.outcome.specs.Outcome.{ranText}
-use Rattle.outcome.proofs.Sizes.{both-short}
+use Rattle.outcome.specs.Told.{exitText, registersText, ranText}
+use Rattle.outcome.proofs.Lengths.{both-short}
 use borrow.Author.Needs.{needs}
 use Rattle.outcome.proofs.put_ran.Statement.{statement}
 use Rattle.outcome.proofs.put_ran.Tie as tie
@@ -26,12 +25,12 @@ same-length c = search needs
 
 returns : tie.Need-returns
 unfolding ranText
-returns c = let r = c .before .before .before .before .before .before .before .before .before .before .before .before .before .before .args .ran in
+returns c = let a = c .before .before .before .before .before .before .before .before .before .before .before .before .before .args in
     rw (← c .before .before .before .before .before .before .before .before .number .ensures)
     (record {
       added = added-then _ _ (c .before .before .before .before .before .before .before .put-exit .ensures .0) (c .before .before .put-registers .ensures .0);
       short =
-          both-short (exitText (c .before .before .before .before .before .before .before .before .number .result) (r .count) (pcOf (r .machine .regs)) (r .machine .settings .flags)) (registersText 0 (take 255 (r .machine .regs)))
+          both-short (exitText (c .before .before .before .before .before .before .before .before .number .result) (a .count) (pcOf (a .m .regs)) (a .m .settings .flags)) (registersText 0 (take 255 (a .m .regs)))
           (c .before .before .before .before .before .before .before .put-exit .ensures .1)
           (c .before .before .put-registers .ensures .1);
     })

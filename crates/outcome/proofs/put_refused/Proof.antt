@@ -1,6 +1,6 @@
 -- `outcome::put_refused` meets its contract: the pieces, put one after the other, are the line.
 use Rattle.text.proofs.Adds.{added-then}
-use Rattle.outcome.proofs.Sizes.{refused-short}
+use Rattle.outcome.proofs.Lengths.{refused-short}
 use borrow.Author.Needs.{needs}
 use Rattle.outcome.proofs.put_refused.Statement.{statement}
 use Rattle.outcome.proofs.put_refused.Tie as tie

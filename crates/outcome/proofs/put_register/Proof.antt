@@ -1,5 +1,5 @@
 -- `outcome::put_register` meets its contract: a register that is 0 has no line, and the pieces are that of one that is not.
-use Rattle.outcome.proofs.Sizes.{register-short}
+use Rattle.outcome.proofs.Lengths.{register-short}
 use mathlib.Core.Path.{refl}
 use native.Mathlib.Omega.{arith}
 use Rattle.text.proofs.Adds.{added-then}

@@ -6,7 +6,7 @@ use borrow.Author.Needs.{needs}
 use lib.ListN.{length, take, length-append}
 use Rattle.text.specs.Text.{Added}
 use Rattle.text.proofs.Adds.{added-then}
-use Rattle.outcome.specs.Outcome.{registersText}
+use Rattle.outcome.specs.Told.{registersText}
 use Rattle.outcome.proofs.Registers.{registers-more}
 use Rattle.outcome.proofs.put_registers.Statement.{statement}
 use Rattle.outcome.proofs.put_registers.Tie as tie

@@ -8,10 +8,10 @@ use Rattle.saver.proofs.writing.put_head.Statement.{statement}
 use Rattle.saver.proofs.writing.put_head.Tie as tie
 
 put-requires : tie.Need-put-requires
-put-requires c κs = search needs
+put-requires c κs = (search needs, omega arith)
 
 put-requires-2 : tie.Need-put-requires-2
-put-requires-2 c κs = omega (arith, c .before .before .before .put .ensures .end, length-bytes 4 (c .before .before .before .before .before .before .args .size))
+put-requires-2 c κs = (omega (arith, c .before .before .before .put .ensures .end, length-bytes 4 (c .before .before .before .before .before .before .args .size)), omega arith)
 
 same-length : tie.Need-same-length
 same-length c = search needs

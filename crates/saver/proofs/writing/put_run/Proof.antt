@@ -28,7 +28,7 @@ cast-put : tie.Need-cast-put
 cast-put c = search needs
 
 put-requires : tie.Need-put-requires
-put-requires c κs = omega (arith, c .before .before .before .before .before .before .before .before .pre, run-length (c .before .before .before .before .before .before .before .before .args .base) (c .before .before .before .before .before .before .before .before .args .run .now) (c .before .before .before .before .before .if1 .left), c .before .before .before .put-head .ensures .end, head-length (2 + 4 * length (c .before .before .before .before .before .before .before .before .args .run .now)) 1)
+put-requires c κs = (omega (arith, c .before .before .before .before .before .before .before .before .pre, run-length (c .before .before .before .before .before .before .before .before .args .base) (c .before .before .before .before .before .before .before .before .args .run .now) (c .before .before .before .before .before .if1 .left), c .before .before .before .put-head .ensures .end, head-length (2 + 4 * length (c .before .before .before .before .before .before .before .before .args .run .now)) 1), omega arith)
 
 put-words-requires : tie.Need-put-words-requires
 put-words-requires c κs = omega (arith, c .before .before .before .before .before .before .before .before .before .before .before .before .pre, run-length (c .before .before .before .before .before .before .before .before .before .before .before .before .args .base) (c .before .before .before .before .before .before .before .before .before .before .before .before .args .run .now) (c .before .before .before .before .before .before .before .before .before .if1 .left), c .before .before .before .before .before .before .before .put-head .ensures .end, head-length (2 + 4 * length (c .before .before .before .before .before .before .before .before .before .before .before .before .args .run .now)) 1, c .before .before .before .put .ensures .end, length-bytes 2 (c .before .before .before .before .before .before .before .before .before .before .before .before .args .base), length-word-bytes (c .before .before .before .before .before .before .before .before .before .before .before .before .args .run .now))

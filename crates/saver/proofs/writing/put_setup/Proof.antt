@@ -18,13 +18,13 @@ put-head-requires : tie.Need-put-head-requires
 put-head-requires c κs = search needs
 
 put-requires : tie.Need-put-requires
-put-requires c κs = omega (arith, c .before .before .before .put-head .ensures .end, head-length 5 3)
+put-requires c κs = (omega (arith, c .before .before .before .put-head .ensures .end, head-length 5 3), omega arith)
 
 put-requires-2 : tie.Need-put-requires-2
-put-requires-2 c κs = omega (arith, c .before .before .before .put .ensures .end, length-bytes 2 (c .before .before .before .before .before .before .before .before .before .before .before .before .args .s .flags), c .before .before .before .before .before .before .before .put-head .ensures .end, head-length 5 3)
+put-requires-2 c κs = (omega (arith, c .before .before .before .put .ensures .end, length-bytes 2 (c .before .before .before .before .before .before .before .before .before .before .before .before .args .s .flags), c .before .before .before .before .before .before .before .put-head .ensures .end, head-length 5 3), omega arith)
 
 put-requires-3 : tie.Need-put-requires-3
-put-requires-3 c κs = omega (arith, c .before .before .before .put2 .ensures .end, length-bytes 2 (c .before .before .before .before .before .before .before .before .before .before .before .before .before .before .before .before .args .s .mask), c .before .before .before .before .before .before .before .put .ensures .end, length-bytes 2 (c .before .before .before .before .before .before .before .before .before .before .before .before .before .before .before .before .args .s .flags), c .before .before .before .before .before .before .before .before .before .before .before .put-head .ensures .end, head-length 5 3)
+put-requires-3 c κs = (omega (arith, c .before .before .before .put2 .ensures .end, length-bytes 2 (c .before .before .before .before .before .before .before .before .before .before .before .before .before .before .before .before .args .s .mask), c .before .before .before .before .before .before .before .put .ensures .end, length-bytes 2 (c .before .before .before .before .before .before .before .before .before .before .before .before .before .before .before .before .args .s .flags), c .before .before .before .before .before .before .before .before .before .before .before .put-head .ensures .end, head-length 5 3), omega arith)
 
 same-length : tie.Need-same-length
 same-length c = search needs

@@ -17,10 +17,10 @@ cast-put : tie.Need-cast-put
 cast-put c = search needs
 
 put-requires : tie.Need-put-requires
-put-requires c κs = omega (arith, c .before .before .before .before .before .before .before .pre .1, value-length (c .before .before .before .before .before .before .before .args .register) (c .before .before .before .before .before .before .before .args .value) (c .before .before .before .before .before .if1 .left), c .before .before .before .put-head .ensures .end, head-length 5 2)
+put-requires c κs = (omega (arith, c .before .before .before .before .before .before .before .pre .1, value-length (c .before .before .before .before .before .before .before .args .register) (c .before .before .before .before .before .before .before .args .value) (c .before .before .before .before .before .if1 .left), c .before .before .before .put-head .ensures .end, head-length 5 2), omega arith)
 
 put-requires-2 : tie.Need-put-requires-2
-put-requires-2 c κs = omega (arith, c .before .before .before .before .before .before .before .before .before .before .before .pre .1, value-length (c .before .before .before .before .before .before .before .before .before .before .before .args .register) (c .before .before .before .before .before .before .before .before .before .before .before .args .value) (c .before .before .before .before .before .before .before .before .before .if1 .left), c .before .before .before .before .before .before .before .put-head .ensures .end, head-length 5 2, c .before .before .before .put .ensures .end, length-bytes 1 (c .before .before .before .before .before .before .before .before .before .before .before .args .register))
+put-requires-2 c κs = (omega (arith, c .before .before .before .before .before .before .before .before .before .before .before .pre .1, value-length (c .before .before .before .before .before .before .before .before .before .before .before .args .register) (c .before .before .before .before .before .before .before .before .before .before .before .args .value) (c .before .before .before .before .before .before .before .before .before .if1 .left), c .before .before .before .before .before .before .before .put-head .ensures .end, head-length 5 2, c .before .before .before .put .ensures .end, length-bytes 1 (c .before .before .before .before .before .before .before .before .before .before .before .args .register)), omega arith)
 
 same-length : tie.Need-same-length
 same-length c = search needs

@@ -26,7 +26,7 @@ shared-slice-read-put : tie.Need-shared-slice-read-put Inv-loop μ-loop
 shared-slice-read-put c = omega arith
 
 put-requires : tie.Need-put-requires Inv-loop μ-loop
-put-requires c κs = omega (arith, left-fits (word-turn (c .before .before .before .before .before .before .args .words .now) (c .before .before .before .loop .i) (c .before .before .loop-test .taken)) (c .before .before .before .loop .inv .1) (c .before .before .before .before .before .before .pre), length-bytes 4 (getD (c .before .before .before .before .before .before .args .words .now) (c .before .before .before .loop .i) 0))
+put-requires c κs = (omega (arith, left-fits (word-turn (c .before .before .before .before .before .before .args .words .now) (c .before .before .before .loop .i) (c .before .before .loop-test .taken)) (c .before .before .before .loop .inv .1) (c .before .before .before .before .before .before .pre), length-bytes 4 (getD (c .before .before .before .before .before .before .args .words .now) (c .before .before .before .loop .i) 0)), omega arith)
 
 add-i : tie.Need-add-i Inv-loop μ-loop
 add-i c = omega arith

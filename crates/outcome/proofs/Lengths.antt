@@ -7,7 +7,7 @@ use native.Mathlib.Omega.{arith}
 use lib.Dec.{eqb}
 use lib.ListN.{length, length-append}
 use Rattle.text.proofs.Decimal.{decimal-length}
-use Rattle.outcome.specs.Outcome.{refusedText, exitText, registerText, longest}
+use Rattle.outcome.specs.Told.{refusedText, exitText, registerText, longest}
 
 pub refused-short : (number offset : ℕ) → number < 2 ^ 64 → offset < 2 ^ 64 → length (refusedText number offset) ≤ longest
 refused-short number offset h k =
