@@ -1,0 +1,129 @@
+// The answers to trials of jobs.
+use crate::digests::digest_bytes;
+use crate::machines::machine_of;
+use crate::machines::put_machine;
+use crate::machines::set_words;
+use crate::out::end_line;
+use crate::out::say;
+use crate::out::tell;
+use crate::out::tell_line;
+use crate::parts::least;
+use crate::parts::least_bytes;
+use crate::payload::word_at;
+use job::Answer;
+use machine::Machine;
+use saver::Saved;
+
+// Writes what a load said.
+fn put_answer(answer: Answer) {
+    match answer {
+        Answer::Done => say(b"loaded\n"),
+        Answer::Refused { why, offset } => {
+            tell(b"refused ", why.number());
+            tell_line(b" at ", offset as u64)
+        }
+    }
+}
+
+// Loads a job into cells and writes the two lines of it.
+fn load(job: &[u8], cells: &mut [u32]) -> Machine {
+    let loaded = job::load(job, cells);
+    let machine = loaded.machine;
+    let answer = loaded.answer;
+    put_answer(answer);
+    put_machine(machine, cells);
+    end_line();
+    machine
+}
+
+// Writes what a save said, and answers how many bytes it wrote.
+fn put_saved(saved: Saved) -> usize {
+    match saved {
+        Saved::Written(size) => {
+            tell_line(b"saved ", size as u64);
+            size
+        }
+        Saved::Unsaved(why) => {
+            tell_line(b"refused ", why.number());
+            0
+        }
+    }
+}
+
+// Saves a machine and its cells into a room, writes the two lines of it, and answers how many bytes were written.
+fn save(m: Machine, cells: &[u32], room: &mut [u8]) -> usize {
+    let saved = saver::save(m, cells, room);
+    let size = put_saved(saved);
+    tell_line(b"room ", digest_bytes(room));
+    size
+}
+
+// Loads a job and saves what was loaded.
+fn load_and_save(job: &[u8], cells: &mut [u32], room: &mut [u8]) -> usize {
+    let machine = load(job, cells);
+    save(machine, cells, room)
+}
+
+// The same with as many of the cells and as much of the room as is said, and if it saved, loads that again into the fresh cells.
+fn load_within(
+    job: &[u8],
+    cells: &mut [u32],
+    room: &mut [u8],
+    fresh: &mut [u32],
+    m: u32,
+    size: u32,
+) {
+    let some = least(m as usize, cells);
+    let most = least_bytes(size as usize, room);
+    let saved = load_and_save(job, &mut cells[..some], &mut room[..most]);
+    if 0 < saved {
+        let again = least(m as usize, fresh);
+        let end = least_bytes(saved, room);
+        load(&room[..end], &mut fresh[..again]);
+    }
+}
+
+// Writes the answer to a job that is loaded, saved and loaded again, over as many cells and as much room as is said.
+fn put_loaded(job: &[u8], m: u32, size: u32) {
+    let mut cells = [2863311530u32; 16500];
+    let mut room = [170u8; 70000];
+    let mut fresh = [1431655765u32; 16500];
+    load_within(job, &mut cells, &mut room, &mut fresh, m, size);
+}
+
+// The same for the job that stands in a payload from byte 8 on.
+pub(crate) fn put_job(payload: &[u8]) {
+    let start = least_bytes(8, payload);
+    put_loaded(&payload[start..], word_at(payload, 0), word_at(payload, 4));
+}
+
+// Saves the machine and the cells that a payload gives.
+fn save_given(payload: &[u8], cells: &mut [u32], room: &mut [u8]) {
+    let given = machine_of(payload);
+    set_words(cells, payload, given.end, 4);
+    save(given.machine, cells, room);
+}
+
+// The same, on as many of the cells and as much of the room as the payload says.
+fn save_within(payload: &[u8], cells: &mut [u32], room: &mut [u8]) {
+    let m = least(word_at(payload, 0) as usize, cells);
+    let size = least_bytes(word_at(payload, 4) as usize, room);
+    save_given(payload, &mut cells[..m], &mut room[..size]);
+}
+
+// Writes the answer to a save.
+pub(crate) fn put_saving(payload: &[u8]) {
+    let mut cells = [0u32; 16500];
+    let mut room = [170u8; 70000];
+    save_within(payload, &mut cells, &mut room);
+}
+
+// Writes what runjob prints.
+pub(crate) fn put_run(payload: &[u8]) {
+    let mut text = [0u8; 4164];
+    let mut cells = [0u32; 4096];
+    let mut journal = [0u32; 3200];
+    let end = outcome::run_job(&mut text, 0, payload, &mut cells, &mut journal);
+    let size = least_bytes(end, &text);
+    say(&text[..size]);
+}
