@@ -1,13 +1,13 @@
 //! Trials of job files: loaded, saved and loaded again, or run by `runjob`.
 
 use crate::cell::{with_immediate, with_registers};
-use crate::generate::Trials;
+use crate::file::Trials;
 use crate::generate_calls::instruction;
 use crate::job::{self, record};
 use crate::machine::Machine;
 use crate::random::Random;
 use crate::setup::Setup;
-use crate::trial::{LOAD, MOST_SAVE_ROOM, RUNJOB};
+use crate::trial::{DESCRIBED, LOAD, MOST_SAVE_ROOM, RUNJOB};
 
 const RUNJOB_CELLS: u32 = 4_096;
 
@@ -73,6 +73,7 @@ pub fn edges(random: &mut Random, trials: &mut Trials) {
         load(8, 100, &whole[..length], trials);
     }
     big(trials);
+    longest(random, trials);
     saves(trials);
 }
 
@@ -102,7 +103,9 @@ fn saves(trials: &mut Trials) {
         }
     }
     // Runs at the first and at the last cell, one cell apart, and of all cells.
-    for content in [[1, 0, 1, 0, 1], [0, 1, 0, 1, 0], [1, 1, 0, 1, 1], [1, 1, 1, 1, 1], [0, 0, 0, 0, 0], [0, 0, 0, 0, 9]] {
+    for content in
+        [[1, 0, 1, 0, 1], [0, 1, 0, 1, 0], [1, 1, 0, 1, 1], [1, 1, 1, 1, 1], [0, 0, 0, 0, 0], [0, 0, 0, 0, 9]]
+    {
         for m in 1..6 {
             let mut setup = Setup::new(m, 60);
             setup.place(0, &content);
@@ -245,6 +248,53 @@ fn big(trials: &mut Trials) {
     runjob(&[0; 33_000], trials);
 }
 
+/// Jobs whose first record is the longest that may be, or about as long.
+fn longest(random: &mut Random, trials: &mut Trials) {
+    let mut add = |m: u32, room: u32, length: u32, base: u32, middle: u32, tail: &[u8]| {
+        let head = &odd(length, 1, 0);
+        let base = &(base as u16).to_le_bytes();
+        let (seed, step) = (random.bits() as u16, 256 + random.below(60_000) as u16);
+        describe(m, room, &[head, &base[..]].concat(), middle, (seed, step), tail, trials);
+    };
+    let rest = [register(3, 4), settings(1, 2, 3), end()].concat();
+    add(16_384, 70_000, 65_538, 0, 65_536, &rest);
+    for room in [65_549, 65_550, 65_551] {
+        add(16_384, room, 65_538, 0, 65_536, &end());
+    }
+    // Too few cells, too many, and a base that is too high or just not.
+    for (m, length, base) in [(16_383, 65_538, 0), (16_385, 65_538, 0), (16_384, 65_538, 1), (16_384, 65_534, 1)] {
+        add(m, 70_000, length, base, length - 2, &end());
+    }
+    // Lengths that no record has.
+    for length in [65_537, 65_539, 65_540, 65_541, 65_542] {
+        add(16_384, 70_000, length, 0, length - 2, &end());
+    }
+    // Payloads cut by one byte, and by as many as there are.
+    for middle in [65_535, 0] {
+        add(16_384, 70_000, 65_538, 0, middle, b"");
+    }
+    // What follows the longest record, and is refused with its offset.
+    let tails = [
+        vec![],
+        vec![0; 5],
+        odd(0, 5, 0),
+        odd(4, 2, 4),
+        register(3, 4)[..10].to_vec(),
+        cells(0, &[1]),
+        settings(512, 0, 3),
+        vec![end(), vec![0]].concat(),
+    ];
+    for tail in tails {
+        add(16_384, 70_000, 65_538, 0, 65_536, &tail);
+    }
+    // A second record at, before and past the end of the first.
+    for base in [16_383, 16_382, 16_384] {
+        add(16_384, 70_000, 65_534, 0, 65_532, &[cells(base, &[7]), end()].concat());
+    }
+    let zeros = [odd(65_538, 1, 0), vec![0, 0]].concat();
+    describe(16_384, 70_000, &zeros, 65_536, (0, 0), &end(), trials);
+}
+
 pub fn random(random: &mut Random, trials: &mut Trials) {
     if random.chance(15) {
         return random_save(random, trials);
@@ -352,6 +402,28 @@ fn load(m: u32, room: u32, job: &[u8], trials: &mut Trials) {
     payload.extend(room.to_le_bytes());
     payload.extend(job);
     trials.add(LOAD, &payload);
+}
+
+/// A job of a head, a middle of as many bytes as is told, which go up by a step from a seed on, and a tail.
+fn describe(
+    m: u32,
+    room: u32,
+    head: &[u8],
+    middle: u32,
+    (seed, step): (u16, u16),
+    tail: &[u8],
+    trials: &mut Trials,
+) {
+    let mut payload = Vec::new();
+    for number in [m, room, middle] {
+        payload.extend(number.to_le_bytes());
+    }
+    for number in [seed, step, head.len() as u16] {
+        payload.extend(number.to_le_bytes());
+    }
+    payload.extend(head);
+    payload.extend(tail);
+    trials.add(DESCRIBED, &payload);
 }
 
 /// A room's length: most often just enough for what will be saved, or just too little.

@@ -14,7 +14,7 @@ use crate::payload::word_at;
 use machine::Machine;
 use machine::Stop;
 use runner::Ran;
-use std::num::wrapping_add_u32;
+use std::num::wrapping_add_usize;
 
 // Writes a stop's number, and the values of an INT.
 fn put_stop(stop: Stop) {
@@ -53,16 +53,16 @@ fn call(m: Machine, cells: &mut [u32], journal: &mut [u32], kind: u8, number: u6
 }
 
 // Makes the calls that stand at a place of a payload, their count first, and writes a line for each.
-fn put_each(payload: &[u8], at: u32, m: Machine, cells: &mut [u32], journal: &mut [u32]) {
+fn put_each(payload: &[u8], at: usize, m: Machine, cells: &mut [u32], journal: &mut [u32]) {
     let mut state = m;
     let mut left = half_at(payload, at);
-    let mut from = wrapping_add_u32(at, 2);
+    let mut from = wrapping_add_usize(at, 2);
     while 0 < left {
-        let number = long_at(payload, wrapping_add_u32(from, 1));
+        let number = long_at(payload, wrapping_add_usize(from, 1));
         let ran = call(state, cells, journal, byte_at(payload, from), number);
         put_ran(ran, cells, journal);
         state = ran.machine;
-        from = wrapping_add_u32(from, 9);
+        from = wrapping_add_usize(from, 9);
         left -= 1;
     }
 }
@@ -92,7 +92,7 @@ fn put_few(payload: &[u8]) {
 // The same with as many words as a trial may have.
 fn put_many(payload: &[u8]) {
     let mut cells = [0u32; 16500];
-    let mut journal = [0u32; 70000];
+    let mut journal = [0u32; 524304];
     put_within(payload, &mut cells, &mut journal);
 }
 

@@ -1,8 +1,10 @@
-// The number that stands for a list in an answer: X = (X * 31 + w + 1) modulo 2^32 over its words or bytes in order, from X = 0 on.
+// The number that stands for a list in an answer: X = (X * 1,000,003 + w + 1) modulo 1,000,000,000,039 over its words or bytes in order, from X = 0 on.
 
-// The next X, before it is taken modulo 2^32.
+const PRIME: u64 = 1000000000039;
+
+// The next X, before it is taken modulo that prime.
 fn mix(x: u64, word: u32) -> u64 {
-    x % 4294967296 * 31 + word as u64 + 1
+    x % PRIME * 1000003 + word as u64 + 1
 }
 
 // The digest of words.
@@ -13,7 +15,7 @@ pub(crate) fn digest(words: &[u32]) -> u64 {
         x = mix(x, words[i]);
         i += 1;
     }
-    x % 4294967296
+    x % PRIME
 }
 
 // The digest of bytes.
@@ -24,7 +26,7 @@ pub(crate) fn digest_bytes(bytes: &[u8]) -> u64 {
         x = mix(x, wide(bytes[i]));
         i += 1;
     }
-    x % 4294967296
+    x % PRIME
 }
 
 // A byte as a word.

@@ -9,10 +9,14 @@ use crate::out::tell;
 use crate::out::tell_line;
 use crate::parts::least;
 use crate::parts::least_bytes;
+use crate::payload::byte_at;
+use crate::payload::half_at;
 use crate::payload::word_at;
 use job::Answer;
 use machine::Machine;
 use saver::Saved;
+use std::num::wrapping_add_u16;
+use std::num::wrapping_add_usize;
 
 // Writes what a load said.
 fn put_answer(answer: Answer) {
@@ -95,6 +99,56 @@ fn put_loaded(job: &[u8], m: u32, size: u32) {
 pub(crate) fn put_job(payload: &[u8]) {
     let start = least_bytes(8, payload);
     put_loaded(&payload[start..], word_at(payload, 0), word_at(payload, 4));
+}
+
+// Byte i of the job that a payload describes: of its head, of its tail, or the upper half of x in between.
+fn described(payload: &[u8], i: usize, x: u16) -> u8 {
+    let head = half_at(payload, 16) as usize;
+    let middle = word_at(payload, 8) as usize;
+    if i < head {
+        return byte_at(payload, wrapping_add_usize(18, i));
+    }
+    if i - head < middle {
+        return (x / 256) as u8;
+    }
+    byte_at(payload, wrapping_add_usize(18, i - middle))
+}
+
+// Makes the job that a payload describes; x goes up by the same step at each byte.
+fn make(job: &mut [u8], payload: &[u8]) {
+    let mut x = half_at(payload, 12);
+    let mut i = 0;
+    while i < job.len() {
+        job[i] = described(payload, i, x);
+        x = wrapping_add_u16(x, half_at(payload, 14));
+        i += 1;
+    }
+}
+
+// The same as for a job that stands in a payload, for one of a length that is described.
+fn put_made(payload: &[u8], job: &mut [u8]) {
+    make(job, payload);
+    put_loaded(job, word_at(payload, 0), word_at(payload, 4));
+}
+
+// The length of the job that a payload describes: what stands after byte 18, and the middle.
+fn length_of(payload: &[u8]) -> usize {
+    if payload.len() < 18 {
+        return 0;
+    }
+    wrapping_add_usize(payload.len() - 18, word_at(payload, 8) as usize)
+}
+
+// The same in as much of a room as the job needs.
+fn make_within(payload: &[u8], room: &mut [u8]) {
+    let size = least_bytes(length_of(payload), room);
+    put_made(payload, &mut room[..size]);
+}
+
+// Writes the answer to a job that is described, loaded, saved and loaded again.
+pub(crate) fn put_described(payload: &[u8]) {
+    let mut room = [0u8; 70000];
+    make_within(payload, &mut room);
 }
 
 // Saves the machine and the cells that a payload gives.

@@ -6,7 +6,7 @@ use crate::payload::half_at;
 use crate::payload::word_at;
 use machine::Machine;
 use machine::Settings;
-use std::num::wrapping_add_u32;
+use std::num::wrapping_add_usize;
 
 // Writes a machine and its cells.
 pub(crate) fn put_machine(m: Machine, cells: &[u32]) {
@@ -29,7 +29,7 @@ fn set(words: &mut [u32], place: u32, value: u32) {
 }
 
 // The place that a setting names, of one byte or four.
-fn place_at(payload: &[u8], at: u32, width: u32) -> u32 {
+fn place_at(payload: &[u8], at: usize, width: usize) -> u32 {
     if width == 1 {
         byte_at(payload, at) as u32
     } else {
@@ -39,17 +39,17 @@ fn place_at(payload: &[u8], at: u32, width: u32) -> u32 {
 
 // Makes the settings that stand at a place of a payload, their count first: each has a place, of as many bytes as is said, and a value.
 // Answers where they end.
-pub(crate) fn set_words(words: &mut [u32], payload: &[u8], at: u32, width: u32) -> u32 {
+pub(crate) fn set_words(words: &mut [u32], payload: &[u8], at: usize, width: usize) -> usize {
     let mut left = half_at(payload, at);
-    let mut from = wrapping_add_u32(at, 2);
+    let mut from = wrapping_add_usize(at, 2);
     while 0 < left {
-        let value_at = wrapping_add_u32(from, width);
+        let value_at = wrapping_add_usize(from, width);
         set(
             words,
             place_at(payload, from, width),
             word_at(payload, value_at),
         );
-        from = wrapping_add_u32(value_at, 4);
+        from = wrapping_add_usize(value_at, 4);
         left -= 1;
     }
     from
@@ -58,7 +58,7 @@ pub(crate) fn set_words(words: &mut [u32], payload: &[u8], at: u32, width: u32) 
 // A machine, and the place of its payload where its registers' settings end.
 pub(crate) struct Given {
     pub machine: Machine,
-    pub end: u32,
+    pub end: usize,
 }
 
 // The machine that a payload gives.

@@ -11,6 +11,7 @@ mod parts;
 mod payload;
 
 use calls::put_calls;
+use jobs::put_described;
 use jobs::put_job;
 use jobs::put_run;
 use jobs::put_saving;
@@ -35,6 +36,7 @@ fn put_rest(kind: u8, payload: &[u8]) {
         6 => put_calls(payload),
         7 => put_run(payload),
         8 => put_saving(payload),
+        9 => put_described(payload),
         _ => {}
     }
 }

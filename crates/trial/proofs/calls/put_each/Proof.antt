@@ -14,14 +14,14 @@ abbrev μ-loop : tie.MeasureT-loop
 half-at-requires : tie.Need-half-at-requires Inv-loop μ-loop
 half-at-requires c κs = tt
 
-wrapping-add-u32-requires : tie.Need-wrapping-add-u32-requires Inv-loop μ-loop
-wrapping-add-u32-requires c κs = tt
+wrapping-add-usize-requires : tie.Need-wrapping-add-usize-requires Inv-loop μ-loop
+wrapping-add-usize-requires c κs = tt
 
 loop-holds : tie.Need-loop-holds Inv-loop μ-loop
 loop-holds c = search needs
 
-wrapping-add-u32-requires-2 : tie.Need-wrapping-add-u32-requires-2 Inv-loop μ-loop
-wrapping-add-u32-requires-2 c κs = tt
+wrapping-add-usize-requires-2 : tie.Need-wrapping-add-usize-requires-2 Inv-loop μ-loop
+wrapping-add-usize-requires-2 c κs = tt
 
 long-at-requires : tie.Need-long-at-requires Inv-loop μ-loop
 long-at-requires c κs = tt
@@ -35,8 +35,8 @@ call-requires c κs = tt
 put-ran-requires : tie.Need-put-ran-requires Inv-loop μ-loop
 put-ran-requires c κs = tt
 
-wrapping-add-u32-requires-3 : tie.Need-wrapping-add-u32-requires-3 Inv-loop μ-loop
-wrapping-add-u32-requires-3 c κs = tt
+wrapping-add-usize-requires-3 : tie.Need-wrapping-add-usize-requires-3 Inv-loop μ-loop
+wrapping-add-usize-requires-3 c κs = tt
 
 sub-left : tie.Need-sub-left Inv-loop μ-loop
 sub-left c = search needs
@@ -63,14 +63,14 @@ put-each-spec =
     Inv-loop
     μ-loop
     half-at-requires
-    wrapping-add-u32-requires
+    wrapping-add-usize-requires
     loop-holds
-    wrapping-add-u32-requires-2
+    wrapping-add-usize-requires-2
     long-at-requires
     byte-at-requires
     call-requires
     put-ran-requires
-    wrapping-add-u32-requires-3
+    wrapping-add-usize-requires-3
     sub-left
     loop-less
     loop-again

@@ -14,14 +14,14 @@ abbrev μ-loop : tie.MeasureT-loop
 half-at-requires : tie.Need-half-at-requires Inv-loop μ-loop
 half-at-requires c κs = tt
 
-wrapping-add-u32-requires : tie.Need-wrapping-add-u32-requires Inv-loop μ-loop
-wrapping-add-u32-requires c κs = tt
+wrapping-add-usize-requires : tie.Need-wrapping-add-usize-requires Inv-loop μ-loop
+wrapping-add-usize-requires c κs = tt
 
 loop-holds : tie.Need-loop-holds Inv-loop μ-loop
 loop-holds c = search needs
 
-wrapping-add-u32-requires-2 : tie.Need-wrapping-add-u32-requires-2 Inv-loop μ-loop
-wrapping-add-u32-requires-2 c κs = tt
+wrapping-add-usize-requires-2 : tie.Need-wrapping-add-usize-requires-2 Inv-loop μ-loop
+wrapping-add-usize-requires-2 c κs = tt
 
 place-at-requires : tie.Need-place-at-requires Inv-loop μ-loop
 place-at-requires c κs = tt
@@ -32,8 +32,8 @@ word-at-requires c κs = tt
 set-requires : tie.Need-set-requires Inv-loop μ-loop
 set-requires c κs = tt
 
-wrapping-add-u32-requires-3 : tie.Need-wrapping-add-u32-requires-3 Inv-loop μ-loop
-wrapping-add-u32-requires-3 c κs = tt
+wrapping-add-usize-requires-3 : tie.Need-wrapping-add-usize-requires-3 Inv-loop μ-loop
+wrapping-add-usize-requires-3 c κs = tt
 
 sub-left : tie.Need-sub-left Inv-loop μ-loop
 sub-left c = search needs
@@ -57,13 +57,13 @@ set-words-spec =
     Inv-loop
     μ-loop
     half-at-requires
-    wrapping-add-u32-requires
+    wrapping-add-usize-requires
     loop-holds
-    wrapping-add-u32-requires-2
+    wrapping-add-usize-requires-2
     place-at-requires
     word-at-requires
     set-requires
-    wrapping-add-u32-requires-3
+    wrapping-add-usize-requires-3
     sub-left
     loop-less
     loop-again
