@@ -62,37 +62,30 @@ fn save(m: Machine, cells: &[u32], room: &mut [u8]) -> usize {
     size
 }
 
-// Loads a job and saves what was loaded.
-fn load_and_save(job: &[u8], cells: &mut [u32], room: &mut [u8]) -> usize {
-    let machine = load(job, cells);
-    save(machine, cells, room)
+// Loads a job that was saved, into as many fresh cells.
+fn load_again(job: &[u8], m: usize) {
+    let mut cells = [1431655765u32; 16500];
+    let some = least(m, &cells);
+    load(job, &mut cells[..some]);
 }
 
-// The same with as many of the cells and as much of the room as is said, and if it saved, loads that again into the fresh cells.
-fn load_within(
-    job: &[u8],
-    cells: &mut [u32],
-    room: &mut [u8],
-    fresh: &mut [u32],
-    m: u32,
-    size: u32,
-) {
-    let some = least(m as usize, cells);
-    let most = least_bytes(size as usize, room);
-    let saved = load_and_save(job, &mut cells[..some], &mut room[..most]);
+// Loads a job, saves what was loaded and, if that is done, loads it again.
+fn load_and_save(job: &[u8], cells: &mut [u32], room: &mut [u8]) {
+    let machine = load(job, cells);
+    let saved = save(machine, cells, room);
+    let end = least_bytes(saved, room);
     if 0 < saved {
-        let again = least(m as usize, fresh);
-        let end = least_bytes(saved, room);
-        load(&room[..end], &mut fresh[..again]);
+        load_again(&room[..end], cells.len());
     }
 }
 
-// Writes the answer to a job that is loaded, saved and loaded again, over as many cells and as much room as is said.
+// Writes the answer to a job, over as many cells and as much room as is said.
 fn put_loaded(job: &[u8], m: u32, size: u32) {
     let mut cells = [2863311530u32; 16500];
     let mut room = [170u8; 70000];
-    let mut fresh = [1431655765u32; 16500];
-    load_within(job, &mut cells, &mut room, &mut fresh, m, size);
+    let some = least(m as usize, &cells);
+    let most = least_bytes(size as usize, &room);
+    load_and_save(job, &mut cells[..some], &mut room[..most]);
 }
 
 // The same for the job that stands in a payload from byte 8 on.
@@ -125,13 +118,7 @@ fn make(job: &mut [u8], payload: &[u8]) {
     }
 }
 
-// The same as for a job that stands in a payload, for one of a length that is described.
-fn put_made(payload: &[u8], job: &mut [u8]) {
-    make(job, payload);
-    put_loaded(job, word_at(payload, 0), word_at(payload, 4));
-}
-
-// The length of the job that a payload describes: what stands after byte 18, and the middle.
+// The length of the job that a payload describes: what stands from byte 18 on, and the middle.
 fn length_of(payload: &[u8]) -> usize {
     if payload.len() < 18 {
         return 0;
@@ -139,16 +126,16 @@ fn length_of(payload: &[u8]) -> usize {
     wrapping_add_usize(payload.len() - 18, word_at(payload, 8) as usize)
 }
 
-// The same in as much of a room as the job needs.
-fn make_within(payload: &[u8], room: &mut [u8]) {
-    let size = least_bytes(length_of(payload), room);
-    put_made(payload, &mut room[..size]);
+// The same for the job that a payload describes, made in room of its length.
+fn put_made(job: &mut [u8], payload: &[u8]) {
+    make(job, payload);
+    put_loaded(job, word_at(payload, 0), word_at(payload, 4));
 }
 
-// Writes the answer to a job that is described, loaded, saved and loaded again.
 pub(crate) fn put_described(payload: &[u8]) {
     let mut room = [0u8; 70000];
-    make_within(payload, &mut room);
+    let size = least_bytes(length_of(payload), &room);
+    put_made(&mut room[..size], payload);
 }
 
 // Saves the machine and the cells that a payload gives.
@@ -158,18 +145,13 @@ fn save_given(payload: &[u8], cells: &mut [u32], room: &mut [u8]) {
     save(given.machine, cells, room);
 }
 
-// The same, on as many of the cells and as much of the room as the payload says.
-fn save_within(payload: &[u8], cells: &mut [u32], room: &mut [u8]) {
-    let m = least(word_at(payload, 0) as usize, cells);
-    let size = least_bytes(word_at(payload, 4) as usize, room);
-    save_given(payload, &mut cells[..m], &mut room[..size]);
-}
-
-// Writes the answer to a save.
+// Writes the answer to a save, of as many cells and into as much room as the payload says.
 pub(crate) fn put_saving(payload: &[u8]) {
     let mut cells = [0u32; 16500];
     let mut room = [170u8; 70000];
-    save_within(payload, &mut cells, &mut room);
+    let m = least(word_at(payload, 0) as usize, &cells);
+    let size = least_bytes(word_at(payload, 4) as usize, &room);
+    save_given(payload, &mut cells[..m], &mut room[..size]);
 }
 
 // Writes what runjob prints.

@@ -92,14 +92,9 @@ fn put_printed(cell: u32, room: &mut [u8]) {
     put_room(room);
 }
 
-// The same into as much of a room as the payload says.
-fn print_within(payload: &[u8], room: &mut [u8]) {
-    let size = least_bytes(byte_at(payload, 4) as usize, room);
-    put_printed(word_at(payload, 0), &mut room[..size]);
-}
-
-// Writes the answer to a printing.
+// Writes the answer to a printing into a room of as many bytes as the payload says.
 pub(crate) fn put_print(payload: &[u8]) {
     let mut room = [170u8; 40];
-    print_within(payload, &mut room);
+    let size = least_bytes(byte_at(payload, 4) as usize, &room);
+    put_printed(word_at(payload, 0), &mut room[..size]);
 }

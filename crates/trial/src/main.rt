@@ -49,20 +49,15 @@ fn answer(number: u64, kind: u8, payload: &mut [u8]) {
     put_rest(kind, &payload[..read]);
 }
 
-// The same for a payload of a length, as far as there is room for it.
-fn answer_within(number: u64, kind: u8, length: u32, payload: &mut [u8]) {
-    let size = least_bytes(length as usize, payload);
-    answer(number, kind, &mut payload[..size]);
-}
-
 // Answers the next trial, and says whether there was one.
 fn next(number: u64) -> bool {
     let mut head = [0u8; 5];
-    let mut payload = [0u8; 40000];
     if io::read_full(STDIN_FILENO, &mut head) < 5 {
         return false;
     }
-    answer_within(number, head[0], word_at(&head, 1), &mut payload);
+    let mut payload = [0u8; 40000];
+    let size = least_bytes(word_at(&head, 1) as usize, &payload);
+    answer(number, head[0], &mut payload[..size]);
     true
 }
 
