@@ -94,7 +94,7 @@ pub(crate) fn put_job(payload: &[u8]) {
     put_loaded(&payload[start..], word_at(payload, 0), word_at(payload, 4));
 }
 
-// Byte i of the job that a payload describes: of its head, of its tail, or the upper half of x in between.
+// Byte i of the job that a payload describes: of its head, of its tail, or in between the upper half of x.
 fn described(payload: &[u8], i: usize, x: u16) -> u8 {
     let head = half_at(payload, 16) as usize;
     let middle = word_at(payload, 8) as usize;
@@ -107,7 +107,7 @@ fn described(payload: &[u8], i: usize, x: u16) -> u8 {
     byte_at(payload, wrapping_add_usize(18, i - middle))
 }
 
-// Makes the job that a payload describes; x goes up by the same step at each byte.
+// Puts the bytes of the job that a payload describes; x goes up by the same step at each.
 fn make(job: &mut [u8], payload: &[u8]) {
     let mut x = half_at(payload, 12);
     let mut i = 0;
@@ -126,12 +126,13 @@ fn length_of(payload: &[u8]) -> usize {
     wrapping_add_usize(payload.len() - 18, word_at(payload, 8) as usize)
 }
 
-// The same for the job that a payload describes, made in room of its length.
+// Makes the job that a payload describes in room of its length, and writes the answer to it.
 fn put_made(job: &mut [u8], payload: &[u8]) {
     make(job, payload);
     put_loaded(job, word_at(payload, 0), word_at(payload, 4));
 }
 
+// The same for a payload that describes a job.
 pub(crate) fn put_described(payload: &[u8]) {
     let mut room = [0u8; 70000];
     let size = least_bytes(length_of(payload), &room);

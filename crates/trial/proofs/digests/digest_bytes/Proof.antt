@@ -11,41 +11,17 @@ Inv-loop bytes x₀ i₀ x i = Unit {0}
 abbrev μ-loop : tie.MeasureT-loop
 μ-loop bytes x₀ i₀ x i = length bytes - i
 
-loop-holds : tie.Need-loop-holds Inv-loop μ-loop
-loop-holds c = tt
-
-shared-slice-read-wide : tie.Need-shared-slice-read-wide Inv-loop μ-loop
-shared-slice-read-wide c = search needs
-
-wide-requires : tie.Need-wide-requires Inv-loop μ-loop
-wide-requires c κs = tt
-
-mix-requires : tie.Need-mix-requires Inv-loop μ-loop
-mix-requires c κs = tt
-
-add-i : tie.Need-add-i Inv-loop μ-loop
-add-i c = search needs
-
-loop-less : tie.Need-loop-less Inv-loop μ-loop
-loop-less c = search needs
-
-loop-again : tie.Need-loop-again Inv-loop μ-loop
-loop-again c = tt
-
-returns : tie.Need-returns Inv-loop μ-loop
-returns c = tt
-
 pub digest-bytes-spec : {M : Type 1} → statement M
 digest-bytes-spec =
     tie.close
     (tie.spec
     Inv-loop
     μ-loop
-    loop-holds
-    shared-slice-read-wide
-    wide-requires
-    mix-requires
-    add-i
-    loop-less
-    loop-again
-    returns)
+    (λ c. tt)
+    (λ c. search needs)
+    (λ c κs. tt)
+    (λ c κs. tt)
+    (λ c. search needs)
+    (λ c. search needs)
+    (λ c. tt)
+    (λ c. tt))
