@@ -74,6 +74,7 @@ pub fn edges(random: &mut Random, trials: &mut Trials) {
     }
     big(trials);
     longest(random, trials);
+    behind_longest(random, trials);
     saves(trials);
 }
 
@@ -250,31 +251,29 @@ fn big(trials: &mut Trials) {
 
 /// Jobs whose first record is the longest that may be, or about as long.
 fn longest(random: &mut Random, trials: &mut Trials) {
-    let mut add = |m: u32, room: u32, length: u32, base: u32, middle: u32, tail: &[u8]| {
-        let head = &odd(length, 1, 0);
-        let base = &(base as u16).to_le_bytes();
-        let (seed, step) = (random.bits() as u16, 256 + random.below(60_000) as u16);
-        describe(m, room, &[head, &base[..]].concat(), middle, (seed, step), tail, trials);
-    };
-    let rest = [register(3, 4), settings(1, 2, 3), end()].concat();
-    add(16_384, 70_000, 65_538, 0, 65_536, &rest);
     for room in [65_549, 65_550, 65_551] {
-        add(16_384, room, 65_538, 0, 65_536, &end());
+        long(16_384, room, (65_538, 0), 65_536, &end(), random, trials);
     }
     // Too few cells, too many, and a base that is too high or just not.
     for (m, length, base) in [(16_383, 65_538, 0), (16_385, 65_538, 0), (16_384, 65_538, 1), (16_384, 65_534, 1)] {
-        add(m, 70_000, length, base, length - 2, &end());
+        long(m, 70_000, (length, base), length - 2, &end(), random, trials);
     }
     // Lengths that no record has.
     for length in [65_537, 65_539, 65_540, 65_541, 65_542] {
-        add(16_384, 70_000, length, 0, length - 2, &end());
+        long(16_384, 70_000, (length, 0), length - 2, &end(), random, trials);
     }
-    // Payloads cut by one byte, and by as many as there are.
+    // Payloads cut by one byte, and by all but the base.
     for middle in [65_535, 0] {
-        add(16_384, 70_000, 65_538, 0, middle, b"");
+        long(16_384, 70_000, (65_538, 0), middle, b"", random, trials);
     }
-    // What follows the longest record, and is refused with its offset.
+    let zeros = [odd(65_538, 1, 0), vec![0, 0]].concat();
+    describe(16_384, 70_000, &zeros, 65_536, (0, 0), &end(), trials);
+}
+
+/// What follows so long a record: if refused, then with its offset.
+fn behind_longest(random: &mut Random, trials: &mut Trials) {
     let tails = [
+        [register(3, 4), settings(1, 2, 3), end()].concat(),
         vec![],
         vec![0; 5],
         odd(0, 5, 0),
@@ -282,17 +281,15 @@ fn longest(random: &mut Random, trials: &mut Trials) {
         register(3, 4)[..10].to_vec(),
         cells(0, &[1]),
         settings(512, 0, 3),
-        vec![end(), vec![0]].concat(),
+        [end(), vec![0]].concat(),
     ];
     for tail in tails {
-        add(16_384, 70_000, 65_538, 0, 65_536, &tail);
+        long(16_384, 70_000, (65_538, 0), 65_536, &tail, random, trials);
     }
     // A second record at, before and past the end of the first.
     for base in [16_383, 16_382, 16_384] {
-        add(16_384, 70_000, 65_534, 0, 65_532, &[cells(base, &[7]), end()].concat());
+        long(16_384, 70_000, (65_534, 0), 65_532, &[cells(base, &[7]), end()].concat(), random, trials);
     }
-    let zeros = [odd(65_538, 1, 0), vec![0, 0]].concat();
-    describe(16_384, 70_000, &zeros, 65_536, (0, 0), &end(), trials);
 }
 
 pub fn random(random: &mut Random, trials: &mut Trials) {
@@ -404,7 +401,23 @@ fn load(m: u32, room: u32, job: &[u8], trials: &mut Trials) {
     trials.add(LOAD, &payload);
 }
 
-/// A job of a head, a middle of as many bytes as is told, which go up by a step from a seed on, and a tail.
+/// A job that begins with a record of cells: the length and the base that it tells, and how many
+/// bytes of cells there are.
+fn long(
+    m: u32,
+    room: u32,
+    (length, base): (u32, u16),
+    bytes: u32,
+    tail: &[u8],
+    random: &mut Random,
+    trials: &mut Trials,
+) {
+    let head = [odd(length, 1, 0), base.to_le_bytes().to_vec()].concat();
+    let seed = (random.bits() as u16, 256 + random.below(60_000) as u16);
+    describe(m, room, &head, bytes, seed, tail, trials);
+}
+
+/// A job of a head, a middle of as many bytes as is told, made from a seed and a step, and a tail.
 fn describe(
     m: u32,
     room: u32,
