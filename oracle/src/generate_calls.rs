@@ -1,13 +1,14 @@
 //! Trials of calls at random: programs of every sort, odd machines, journals put together by hand.
 
 use crate::cell::{with_immediate, with_registers};
-use crate::generate::Trials;
+use crate::file::Trials;
 use crate::machine::{ENTRY_WORDS, PC};
 use crate::random::Random;
-use crate::setup::Setup;
-use crate::trial::{BACK, MOST_JOURNAL, RUN, STEP};
+use crate::setup::{Setup, LONG};
+use crate::trial::{BACK, RUN, STEP};
 
-pub const LONG: u64 = 1 << 40;
+/// Words of a journal that is long, but soon told.
+pub const LONG_JOURNAL: u32 = 70_000;
 
 /// Registers with a part of their own in programs: pointers, a special address, and nothing.
 const POINTER: u8 = 9;
@@ -169,7 +170,7 @@ fn fills_journal(random: &mut Random) -> Setup {
 /// A machine with anything in its settings, depth and PC; about half of it in order.
 fn anything(random: &mut Random) -> Setup {
     let m = random.pick(&[0, 1, 1, 2, 2, 3, 10, 10, 10, 16_383, 16_384, 16_385, 16_500]);
-    let words = random.pick(&[0, 7, 8, 9, 15, 16, 17, 24, 80, 80, MOST_JOURNAL as u32 - 1, MOST_JOURNAL as u32]);
+    let words = random.pick(&[0, 7, 8, 9, 15, 16, 17, 24, 80, 80, LONG_JOURNAL - 1, LONG_JOURNAL]);
     let entries = words / 8;
     let mut setup = Setup::new(m, words);
     let below_m = random.below(m.max(1) as u64) as u32;

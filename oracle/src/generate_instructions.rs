@@ -1,10 +1,9 @@
 //! Trials of calls that go through the instructions one by one.
 
 use crate::cell::{form, with_immediate, with_registers, Form};
-use crate::generate::Trials;
-use crate::generate_calls::LONG;
+use crate::file::Trials;
 use crate::random::Random;
-use crate::setup::Setup;
+use crate::setup::{Setup, LONG};
 use crate::trial::{BACK, RUN, STEP};
 
 const OPERANDS: [u32; 11] =

@@ -1,13 +1,13 @@
 //! Trials of job files: loaded, saved and loaded again, or run by `runjob`.
 
 use crate::cell::{with_immediate, with_registers};
-use crate::generate::Trials;
+use crate::file::Trials;
 use crate::generate_calls::instruction;
 use crate::job::{self, record};
 use crate::machine::Machine;
 use crate::random::Random;
 use crate::setup::Setup;
-use crate::trial::{LOAD, MOST_SAVE_ROOM, RUNJOB};
+use crate::trial::{DESCRIBED, LOAD, MOST_SAVE_ROOM, RUNJOB};
 
 const RUNJOB_CELLS: u32 = 4_096;
 
@@ -73,6 +73,8 @@ pub fn edges(random: &mut Random, trials: &mut Trials) {
         load(8, 100, &whole[..length], trials);
     }
     big(trials);
+    longest(random, trials);
+    behind_longest(random, trials);
     saves(trials);
 }
 
@@ -102,7 +104,9 @@ fn saves(trials: &mut Trials) {
         }
     }
     // Runs at the first and at the last cell, one cell apart, and of all cells.
-    for content in [[1, 0, 1, 0, 1], [0, 1, 0, 1, 0], [1, 1, 0, 1, 1], [1, 1, 1, 1, 1], [0, 0, 0, 0, 0], [0, 0, 0, 0, 9]] {
+    for content in
+        [[1, 0, 1, 0, 1], [0, 1, 0, 1, 0], [1, 1, 0, 1, 1], [1, 1, 1, 1, 1], [0, 0, 0, 0, 0], [0, 0, 0, 0, 9]]
+    {
         for m in 1..6 {
             let mut setup = Setup::new(m, 60);
             setup.place(0, &content);
@@ -245,6 +249,49 @@ fn big(trials: &mut Trials) {
     runjob(&[0; 33_000], trials);
 }
 
+/// Jobs whose first record is the longest that may be, or about as long.
+fn longest(random: &mut Random, trials: &mut Trials) {
+    for room in [65_549, 65_550, 65_551] {
+        long(16_384, room, (65_538, 0), 65_536, &end(), random, trials);
+    }
+    // Too few cells, too many, and a base that is too high or just not.
+    for (m, length, base) in [(16_383, 65_538, 0), (16_385, 65_538, 0), (16_384, 65_538, 1), (16_384, 65_534, 1)] {
+        long(m, 70_000, (length, base), length - 2, &end(), random, trials);
+    }
+    // Lengths that no record has.
+    for length in [65_537, 65_539, 65_540, 65_541, 65_542] {
+        long(16_384, 70_000, (length, 0), length - 2, &end(), random, trials);
+    }
+    // Payloads cut by one byte, and by all but the base.
+    for middle in [65_535, 0] {
+        long(16_384, 70_000, (65_538, 0), middle, b"", random, trials);
+    }
+    let zeros = [odd(65_538, 1, 0), vec![0, 0]].concat();
+    describe(16_384, 70_000, &zeros, 65_536, (0, 0), &end(), trials);
+}
+
+/// What follows so long a record: if refused, then with its offset.
+fn behind_longest(random: &mut Random, trials: &mut Trials) {
+    let tails = [
+        [register(3, 4), settings(1, 2, 3), end()].concat(),
+        vec![],
+        vec![0; 5],
+        odd(0, 5, 0),
+        odd(4, 2, 4),
+        register(3, 4)[..10].to_vec(),
+        cells(0, &[1]),
+        settings(512, 0, 3),
+        [end(), vec![0]].concat(),
+    ];
+    for tail in tails {
+        long(16_384, 70_000, (65_538, 0), 65_536, &tail, random, trials);
+    }
+    // A second record at, before and past the end of the first.
+    for base in [16_383, 16_382, 16_384] {
+        long(16_384, 70_000, (65_534, 0), 65_532, &[cells(base, &[7]), end()].concat(), random, trials);
+    }
+}
+
 pub fn random(random: &mut Random, trials: &mut Trials) {
     if random.chance(15) {
         return random_save(random, trials);
@@ -352,6 +399,44 @@ fn load(m: u32, room: u32, job: &[u8], trials: &mut Trials) {
     payload.extend(room.to_le_bytes());
     payload.extend(job);
     trials.add(LOAD, &payload);
+}
+
+/// A job that begins with a record of cells: the length and the base that it tells, and how many
+/// bytes of cells there are.
+fn long(
+    m: u32,
+    room: u32,
+    (length, base): (u32, u16),
+    bytes: u32,
+    tail: &[u8],
+    random: &mut Random,
+    trials: &mut Trials,
+) {
+    let head = [odd(length, 1, 0), base.to_le_bytes().to_vec()].concat();
+    let seed = (random.bits() as u16, 256 + random.below(60_000) as u16);
+    describe(m, room, &head, bytes, seed, tail, trials);
+}
+
+/// A job of a head, a middle of as many bytes as is told, made from a seed and a step, and a tail.
+fn describe(
+    m: u32,
+    room: u32,
+    head: &[u8],
+    middle: u32,
+    (seed, step): (u16, u16),
+    tail: &[u8],
+    trials: &mut Trials,
+) {
+    let mut payload = Vec::new();
+    for number in [m, room, middle] {
+        payload.extend(number.to_le_bytes());
+    }
+    for number in [seed, step, head.len() as u16] {
+        payload.extend(number.to_le_bytes());
+    }
+    payload.extend(head);
+    payload.extend(tail);
+    trials.add(DESCRIBED, &payload);
 }
 
 /// A room's length: most often just enough for what will be saved, or just too little.

@@ -1,7 +1,7 @@
 //! Trials of single cells: decoded, encoded, printed, read.
 
 use crate::cell::{form, with_immediate, with_registers, Form};
-use crate::generate::Trials;
+use crate::file::Trials;
 use crate::line;
 use crate::random::Random;
 use crate::trial::{DECODE, ENCODE, MOST_PRINT_ROOM, PRINT, READ};

@@ -1,10 +1,10 @@
 //! Trials of calls that go through the stops one by one.
 
 use crate::cell::{with_immediate, with_registers};
-use crate::generate::Trials;
-use crate::generate_calls::{entries, write_entry, LONG};
+use crate::file::Trials;
+use crate::generate_calls::{entries, write_entry, LONG_JOURNAL};
 use crate::random::Random;
-use crate::setup::Setup;
+use crate::setup::{Setup, LONG};
 use crate::trial::{BACK, MOST_JOURNAL, RUN, STEP};
 
 pub fn edges(random: &mut Random, trials: &mut Trials) {
@@ -15,6 +15,8 @@ pub fn edges(random: &mut Random, trials: &mut Trials) {
     traps(random, trials);
     damages(random, trials);
     long(trials);
+    most_entries(random, trials);
+    all_entries(trials);
 }
 
 /// Each float opcode, met after as many steps as come before it.
@@ -134,9 +136,9 @@ fn damages(random: &mut Random, trials: &mut Trials) {
     }
 }
 
-/// The most cells, and as long a journal as trials may have.
+/// The most cells, and a long journal.
 fn long(trials: &mut Trials) {
-    for words in [MOST_JOURNAL as u32, MOST_JOURNAL as u32 - 1] {
+    for words in [LONG_JOURNAL, LONG_JOURNAL - 1] {
         let mut setup = Setup::new(16_384, words);
         setup.place(
             16_380,
@@ -149,6 +151,37 @@ fn long(trials: &mut Trials) {
         );
         setup.registers = vec![(1, 1), (2, 0x9E37_79B9), (3, 16_379), (255, 16_380)];
         setup.calls = vec![(RUN, 1_000), (RUN, LONG), (BACK, 5_000), (RUN, 4_000), (BACK, LONG)];
+        setup.add_to(trials);
+    }
+}
+
+/// A loop of three cells that adds, stores and goes back.
+fn endless(m: u32, words: u32) -> Setup {
+    let mut setup = Setup::new(m, words);
+    setup.place(0, &[with_registers(17, 1, 1, 2), with_registers(1, 1, 3, 0), with_immediate(121, 0, 0xFFFD)]);
+    setup.registers = vec![(1, 1), (2, 0x9E37_79B9), (3, m - 1)];
+    setup
+}
+
+/// Depths around the most entries that there are: journals with words for one fewer, for all of
+/// them, and for one and two more, which are never used.
+fn most_entries(random: &mut Random, trials: &mut Trials) {
+    for words in [524_287, 524_288, 524_295, 524_296, MOST_JOURNAL as u32] {
+        for depth in [65_535, 65_536, 65_537] {
+            let mut setup = endless(9, words);
+            setup.depth = depth;
+            setup.litter(random);
+            setup.calls = vec![(STEP, 0), (RUN, LONG), (BACK, 1)];
+            setup.add_to(trials);
+        }
+    }
+}
+
+/// Journals that a run fills from the first entry to the last, and back.
+fn all_entries(trials: &mut Trials) {
+    for words in [524_288, MOST_JOURNAL as u32] {
+        let mut setup = endless(100, words);
+        setup.calls = vec![(RUN, LONG), (STEP, 0), (BACK, LONG)];
         setup.add_to(trials);
     }
 }

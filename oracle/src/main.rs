@@ -2,6 +2,7 @@
 
 mod cell;
 mod execute;
+mod file;
 mod generate;
 mod generate_calls;
 mod generate_instructions;
@@ -95,7 +96,8 @@ fn runjob() -> Result<(), String> {
 fn assemble() -> Result<(), String> {
     let text = input()?;
     let lines = text.split_inclusive(|byte| *byte == b'\n').enumerate();
-    let cells: Result<Vec<u32>, String> =
-        lines.map(|(number, line)| line::read(line).map_err(|_| format!("line {} is no cell's", number + 1))).collect();
+    let cells: Result<Vec<u32>, String> = lines
+        .map(|(number, line)| line::read(line).map_err(|_| format!("line {} is no cell's", number + 1)))
+        .collect();
     output(&job::saved(&machine::Machine::fresh(), &cells?))
 }

@@ -1,9 +1,12 @@
 //! A trial of calls or of a save under construction: the machine, cells and journal before, and the calls; or the room's length.
 
-use crate::generate::Trials;
+use crate::file::Trials;
 use crate::machine::{ENTRY_WORDS, PC};
 use crate::random::Random;
 use crate::trial::{CALLS, SAVE};
+
+/// More steps than any call can do.
+pub const LONG: u64 = 1 << 40;
 
 pub struct Setup {
     pub m: u32,

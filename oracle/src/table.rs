@@ -1,9 +1,9 @@
-//! How often each opcode, stop and refusal occurs in a file of trials.
+//! How often each opcode, stop, refusal and limit occurs in a file of trials.
 
 use std::collections::BTreeMap;
 
 use crate::cell::opcode_of;
-use crate::machine::{Answer, Runner, PC};
+use crate::machine::{Answer, Runner, ENTRY_WORDS, MOST_ENTRIES, PC};
 
 /// `runjob` makes one call of run; its refusals are counted below.
 const CALLS: [&str; 4] = ["step", "run", "back", "runjob"];
@@ -19,6 +19,22 @@ const REFUSALS: [(&str, &[u32]); 6] = [
     ("runjob", &[10, 41, 42, 43, 44, 45, 46, 47, 50]),
 ];
 
+/// What happens at the limits that only large trials reach. The journals have words for more
+/// entries than there may be, and the depth is that after the call. A record's first number is the
+/// length that it tells, the second how much of that is there.
+const LIMITS: [&str; 10] = [
+    "step 0 at depth 65536",
+    "step 7 at depth 65536",
+    "step 11 at depth 65537",
+    "run 7 at depth 65536",
+    "run 11 at depth 65537",
+    "back 0 at depth 65535",
+    "back 11 at depth 65537",
+    "record 65538 of 65538 loaded",
+    "record 65538 of 65537 refused 44 at 0",
+    "record 65542 of 65542 refused 43 at 0",
+];
+
 pub struct Tally {
     pub decoded: [u64; 256],
     pub encoded: [u64; 256],
@@ -29,6 +45,7 @@ pub struct Tally {
     unsupported: [u64; 256],
     stops: [[u64; 13]; 4],
     refusals: BTreeMap<(&'static str, u32), u64>,
+    limits: BTreeMap<String, u64>,
 }
 
 impl Tally {
@@ -42,6 +59,7 @@ impl Tally {
             unsupported: [0; 256],
             stops: [[0; 13]; 4],
             refusals: BTreeMap::new(),
+            limits: BTreeMap::new(),
         }
     }
 
@@ -55,6 +73,22 @@ impl Tally {
             let cell = runner.cells[runner.machine.registers[PC] as usize];
             self.unsupported[opcode_of(cell) as usize] += 1;
         }
+        if runner.journal.len() / ENTRY_WORDS > MOST_ENTRIES {
+            self.limit(format!("{} {} at depth {}", CALLS[call as usize], answer.stop, runner.machine.depth));
+        }
+    }
+
+    /// Counts the first line of the answer to a job whose first record is of cells.
+    pub fn described(&mut self, job: &[u8], text: &str) {
+        let said = text.lines().next().expect("an answer has a line");
+        if job.len() >= 6 && job[4..6] == [1, 0] {
+            let told = u32::from_le_bytes([job[0], job[1], job[2], job[3]]) as usize;
+            self.limit(format!("record {told} of {} {said}", told.min(job.len() - 6)));
+        }
+    }
+
+    fn limit(&mut self, name: String) {
+        *self.limits.entry(name).or_insert(0) += 1;
     }
 
     /// Counts what the first line of `runjob` tells.
@@ -81,6 +115,7 @@ impl Tally {
         self.opcodes(&mut text, &mut missing);
         self.calls(&mut text, &mut missing);
         self.refused(&mut text, &mut missing);
+        self.limited(&mut text, &mut missing);
         (text, missing)
     }
 
@@ -140,6 +175,16 @@ impl Tally {
                 if count == 0 {
                     missing.push(format!("refusal {number} of {place}"));
                 }
+            }
+        }
+    }
+    fn limited(&self, text: &mut String, missing: &mut Vec<String>) {
+        *text += "limit count\n";
+        for name in LIMITS {
+            let count = self.limits.get(name).copied().unwrap_or(0);
+            *text += &format!("{name} {count}\n");
+            if count == 0 {
+                missing.push(name.to_string());
             }
         }
     }

@@ -171,6 +171,30 @@ fn back_of_five_at_depth_three() {
     assert_eq!((runner.machine, runner.cells), before);
 }
 
+/// Two lists that differ in one word, or in which of their places a word stands.
+#[test]
+fn digests_differ() {
+    let only = |place: usize, word: u32| {
+        let mut list = [0; 256];
+        list[place] = word;
+        trial::words(&list)
+    };
+    let all_differ = |mut digests: Vec<u64>| {
+        let count = digests.len();
+        digests.sort();
+        digests.dedup();
+        digests.len() == count
+    };
+    for word in [1, 5, 0x8000_0000, 0xFFFF_FFFF] {
+        assert!(all_differ((0..256).map(|place| only(place, word)).collect()));
+    }
+    assert!(all_differ(
+        [0, 1, 2, 3, 4, 5, 0x8000_0000, 0xFFFF_FFFB, 0xFFFF_FFFF].map(|word| only(7, word)).to_vec()
+    ));
+    assert_ne!(trial::words(&[3, 9, 7]), trial::words(&[3, 7, 9]));
+    assert_ne!(trial::words(&[0; 3]), trial::words(&[0; 4]));
+}
+
 /// With any seed: the trials can be read and answered, and nothing is missing from the table.
 #[test]
 fn generated_trials() {

@@ -14,6 +14,7 @@ pub const LOAD: u8 = 5;
 pub const CALLS: u8 = 6;
 pub const RUNJOB: u8 = 7;
 pub const SAVE: u8 = 8;
+pub const DESCRIBED: u8 = 9;
 
 pub const STEP: u8 = 0;
 pub const RUN: u8 = 1;
@@ -22,8 +23,9 @@ pub const BACK: u8 = 2;
 pub const MOST_PAYLOAD: usize = 40_000;
 pub const MOST_PRINT_ROOM: usize = 40;
 pub const MOST_CELLS: usize = 16_500;
-pub const MOST_JOURNAL: usize = 70_000;
+pub const MOST_JOURNAL: usize = 524_304;
 pub const MOST_SAVE_ROOM: usize = 70_000;
+pub const MOST_JOB: usize = 70_000;
 
 const ROOM_FILL: u8 = 0xAA;
 const CELLS_FILL: u32 = 2_863_311_530;
@@ -87,11 +89,13 @@ pub fn split(file: &[u8]) -> Result<Vec<(u8, &[u8])>, String> {
     Ok(trials)
 }
 
-fn digest(words: impl Iterator<Item = u32>) -> u32 {
-    words.fold(0, |sum: u32, word| sum.wrapping_mul(31).wrapping_add(word).wrapping_add(1))
+/// A polynomial over a prime field with more elements than there are words: one word that differs,
+/// or two that changed places, always show.
+fn digest(words: impl Iterator<Item = u32>) -> u64 {
+    words.fold(0, |sum, word| (sum * 1_000_003 + word as u64 + 1) % 1_000_000_000_039)
 }
 
-fn words(list: &[u32]) -> u32 {
+pub fn words(list: &[u32]) -> u64 {
     digest(list.iter().copied())
 }
 
@@ -116,6 +120,7 @@ pub fn answer(kind: u8, payload: &[u8], tally: &mut Tally) -> Result<String, Str
         CALLS => calls(&mut input, tally)?,
         RUNJOB => runjob(&mut input, tally),
         SAVE => save(&mut input, tally)?,
+        DESCRIBED => described(&mut input, tally)?,
         _ => return Err(format!("kind {kind} is unknown")),
     };
     input.end()?;
@@ -199,16 +204,39 @@ fn save_text(saved: Result<usize, u32>, room: &[u8], tally: &mut Tally) -> Strin
 }
 
 fn load(input: &mut Input, tally: &mut Tally) -> Result<String, String> {
-    let mut cells = vec![CELLS_FILL; input.length(4, MOST_CELLS)?];
-    let mut room = vec![ROOM_FILL; input.length(4, MOST_SAVE_ROOM)?];
-    let (mut text, machine) = load_text(std::mem::take(&mut input.bytes), &mut cells, tally);
+    let (m, room) = (input.length(4, MOST_CELLS)?, input.length(4, MOST_SAVE_ROOM)?);
+    Ok(load_and_save(std::mem::take(&mut input.bytes), m, room, tally))
+}
+
+/// A job whose head and tail are given, and between them as many bytes as are told: byte i of the
+/// job is there the upper byte of seed + step * i, modulo 65,536.
+fn described(input: &mut Input, tally: &mut Tally) -> Result<String, String> {
+    let (m, room) = (input.length(4, MOST_CELLS)?, input.length(4, MOST_SAVE_ROOM)?);
+    let middle = input.length(4, MOST_JOB)?;
+    let (seed, step) = (input.number(2)? as usize, input.number(2)? as usize);
+    let head = input.length(2, MOST_JOB)?;
+    let mut job = input.take(head)?.to_vec();
+    job.extend((head..head + middle).map(|i| ((seed + step * i) >> 8) as u8));
+    job.extend(std::mem::take(&mut input.bytes));
+    if job.len() > MOST_JOB {
+        return Err(format!("a job of {} bytes is above {MOST_JOB}", job.len()));
+    }
+    let text = load_and_save(&job, m, room, tally);
+    tally.described(&job, &text);
+    Ok(text)
+}
+
+fn load_and_save(job: &[u8], m: usize, room: usize, tally: &mut Tally) -> String {
+    let mut cells = vec![CELLS_FILL; m];
+    let mut room = vec![ROOM_FILL; room];
+    let (mut text, machine) = load_text(job, &mut cells, tally);
     let saved = job::save(&machine, &cells, &mut room);
     text += &save_text(saved, &room, tally);
     if let Ok(length) = saved {
         let mut fresh = vec![FRESH_CELLS_FILL; cells.len()];
         text += &load_text(&room[..length], &mut fresh, tally).0;
     }
-    Ok(text)
+    text
 }
 
 /// Puts a count of settings (place and value) into a list.

@@ -1,7 +1,6 @@
 // What a step costs is measured with this program: `bench ROUNDS [CELLS [BACK]] < JOB`. It loads the job into 16,384 cells or as many as
 // asked, goes as many rounds as asked, each a run forward of budget 65,536 and 65,536 steps back or as many as asked, and writes one line
 // of what came of it.
-ghost use Prim.Native.Nat.{_≤_};
 ghost use Rattle.io.specs.Counts.{Counts};
 
 mod rounds;
@@ -85,18 +84,6 @@ fn measure_input(
     measure(&room[..n], &mut cells[..m], journal, times, number);
 }
 
-// The same, with all the room that the program has.
-fn measure_all(
-    room: &mut [u8; 131072],
-    cells: &mut [u32; 16384],
-    journal: &mut [u32; 524288],
-    size: usize,
-    times: u32,
-    number: u64,
-) {
-    measure_input(room, cells, journal, size, times, number);
-}
-
 fn main() {
     let mut room = [0u8; 131072];
     let mut cells = [0u32; 16384];
@@ -104,5 +91,5 @@ fn main() {
     let times = argument(1, 1);
     let size = argument(2, 16384) as usize;
     let number = argument(3, 65536) as u64;
-    measure_all(&mut room, &mut cells, &mut journal, size, times, number);
+    measure_input(&mut room, &mut cells, &mut journal, size, times, number);
 }

@@ -1,7 +1,4 @@
 // Rounds of a run forward and a run back, and what is told of them.
-ghost use mathlib.Core.Path.{_≡_};
-ghost use Rattle.machine.specs.State.{stateOf};
-ghost use Rattle.bench.specs.Rounds.{sumFrom, noneYet, addedUp, talliedFrom};
 use machine::Machine;
 use runner::Ran;
 
@@ -16,23 +13,24 @@ pub(crate) struct Tally {
     pub sum: u32,
 }
 
-// The sum x after the registers: X*31 + register, modulo 2^32, over them in order.
-fn sum(x: u32, words: &[u32]) -> u32
-    ensures { λ r. ⌜ r ≡ sumFrom x (now (words .entry)) ⌝ }
-{
-    let mut total = x as u64;
+// The sum after one register more: X*31 + register, modulo 2^32.
+fn next(x: u32, register: u32) -> u32 {
+    ((x as u64 * 31 + register as u64) % 4294967296) as u32
+}
+
+// The sum x after the registers, in order.
+fn sum(x: u32, words: &[u32]) -> u32 {
+    let mut total = x;
     let mut i = 0;
     while i < words.len() {
-        total = (total * 31 + words[i] as u64) % 4294967296;
+        total = next(total, words[i]);
         i += 1;
     }
-    total as u32
+    total
 }
 
 // The tally after a round whose run forward and number of steps back are given.
-fn add_up(told: Tally, ran: Ran, back: u64) -> Tally
-    ensures { λ r. ⌜ r ≡ addedUp told ran back ⌝ }
-{
+fn add_up(told: Tally, ran: Ran, back: u64) -> Tally {
     let m = ran.machine;
     let regs = m.regs;
     let stop = ran.stop;
@@ -51,9 +49,7 @@ pub(crate) fn go_round(
     journal: &mut [u32],
     times: u32,
     number: u64,
-) -> Tally
-    ensures { λ r. ⌜ r ≡ talliedFrom number times noneYet (stateOf m (now (cells .entry)) (now (journal .entry))) ⌝ }
-{
+) -> Tally {
     let mut state = m;
     let mut told = Tally {
         stop: 0,

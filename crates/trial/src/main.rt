@@ -1,101 +1,70 @@
-// Reads a file of trials from standard input and writes their answers to standard output.
-ghost use Rattle.trials.specs.Answers.{Counts};
-ghost use Prim.Native.Nat.{_<_};
+// Reads a file of trials from standard input and writes their answers to standard output: oracle/README.md has both forms. A trial's
+// cells, journal and room are made for it, so that nothing is left of the one before.
+
+mod calls;
+mod digests;
+mod jobs;
+mod lines;
+mod machines;
+mod out;
+mod parts;
+mod payload;
+
+use calls::put_calls;
+use jobs::put_described;
+use jobs::put_job;
+use jobs::put_run;
+use jobs::put_saving;
 use libc::STDIN_FILENO;
-use libc::STDOUT_FILENO;
+use lines::put_decoded;
+use lines::put_encoded;
+use lines::put_print;
+use lines::put_read;
+use out::tell;
+use out::tell_line;
+use parts::least_bytes;
+use payload::word_at;
 
-// The length of a payload, little-endian, of at most as many bytes as there is room for.
-fn length_of(head: &[u8; 5], room: &[u8]) -> usize
-    ensures { λ r. ⌜ Counts r (now (room .entry)) ⌝ }
-{
-    let low = wide(head[1]) + 256 * wide(head[2]);
-    let high = wide(head[3]) + 256 * wide(head[4]);
-    least(low + 65536 * high, room)
+// Writes what an answer has after its first line: nothing for a kind that is none.
+fn put_rest(kind: u8, payload: &[u8]) {
+    match kind {
+        1 => put_decoded(payload),
+        2 => put_encoded(payload),
+        3 => put_print(payload),
+        4 => put_read(payload),
+        5 => put_job(payload),
+        6 => put_calls(payload),
+        7 => put_run(payload),
+        8 => put_saving(payload),
+        9 => put_described(payload),
+        _ => {}
+    }
 }
 
-// A byte as a number.
-fn wide(b: u8) -> usize
-    ensures { λ r. ⌜ r < 256 ⌝ }
-{
-    b as usize
-}
-
-// The lesser of a number and a length.
-fn least(a: usize, room: &[u8]) -> usize
-    ensures { λ r. ⌜ Counts r (now (room .entry)) ⌝ }
-{
-    if a < room.len() { a } else { room.len() }
-}
-
-// Reads a payload, answers the trial and writes the answer.
-fn answer_one(
-    number: u64,
-    kind: u8,
-    payload: &mut [u8],
-    cells: &mut [u32],
-    journal: &mut [u32],
-    room: &mut [u8],
-    text: &mut [u8],
-) -> bool {
+// Reads a payload and answers the trial.
+fn answer(number: u64, kind: u8, payload: &mut [u8]) {
     let read = io::read_full(STDIN_FILENO, payload);
-    let end = trials::answer(text, number, kind, &payload[..read], cells, journal, room);
-    io::write_all(STDOUT_FILENO, &text[..end])
+    tell(b"trial ", number);
+    tell_line(b" kind ", kind as u64);
+    put_rest(kind, &payload[..read]);
 }
 
 // Answers the next trial, and says whether there was one.
-fn next(
-    number: u64,
-    payload: &mut [u8],
-    cells: &mut [u32],
-    journal: &mut [u32],
-    room: &mut [u8],
-    text: &mut [u8],
-) -> bool {
+fn next(number: u64) -> bool {
     let mut head = [0u8; 5];
-    let got = io::read_full(STDIN_FILENO, &mut head);
-    if got < 5 {
+    if io::read_full(STDIN_FILENO, &mut head) < 5 {
         return false;
     }
-    let size = length_of(&head, payload);
-    answer_one(
-        number,
-        head[0],
-        &mut payload[..size],
-        cells,
-        journal,
-        room,
-        text,
-    )
-}
-
-// The same, with all the room that the program has.
-fn turn(
-    number: u64,
-    payload: &mut [u8; 40000],
-    cells: &mut [u32; 16500],
-    journal: &mut [u32; 70000],
-    room: &mut [u8; 70000],
-    text: &mut [u8; 1048576],
-) -> bool {
-    next(number, payload, cells, journal, room, text)
+    let mut payload = [0u8; 40000];
+    let size = least_bytes(word_at(&head, 1) as usize, &payload);
+    answer(number, head[0], &mut payload[..size]);
+    true
 }
 
 fn main() {
-    let mut payload = [0u8; 40000];
-    let mut cells = [0u32; 16500];
-    let mut journal = [0u32; 70000];
-    let mut room = [0u8; 70000];
-    let mut text = [0u8; 1048576];
     let mut number: u64 = 0;
     while number < 1048576 {
-        if !turn(
-            number,
-            &mut payload,
-            &mut cells,
-            &mut journal,
-            &mut room,
-            &mut text,
-        ) {
+        if !next(number) {
             return;
         }
         number += 1;
