@@ -14,6 +14,7 @@ use crate::payload::half_at;
 use crate::payload::word_at;
 use job::Answer;
 use machine::Machine;
+use outcome::Sizes;
 use saver::Saved;
 use std::num::wrapping_add_u16;
 use std::num::wrapping_add_usize;
@@ -157,10 +158,11 @@ pub(crate) fn put_saving(payload: &[u8]) {
 
 // Writes what runjob prints.
 pub(crate) fn put_run(payload: &[u8]) {
-    let mut text = [0u8; 4164];
-    let mut cells = [0u32; 4096];
-    let mut journal = [0u32; 3200];
-    let end = outcome::run_job(&mut text, 0, payload, &mut cells, &mut journal);
+    let mut text = [0u8; Sizes::TEXT];
+    let mut cells = [0u32; Sizes::CELLS];
+    let mut journal = [0u32; Sizes::WORDS];
+    let outcome = outcome::run_job(payload, &mut cells, &mut journal);
+    let end = outcome::put_outcome(&mut text, 0, outcome);
     let size = least_bytes(end, &text);
     say(&text[..size]);
 }
