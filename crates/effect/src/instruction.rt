@@ -16,6 +16,7 @@ ghost use Rattle.effect.specs.Refusal.{faults};
 ghost use Rattle.effect.specs.Inner.{does, toldOf, meant, takesImm, remaining, transferBy};
 use crate::Effect;
 use crate::effects;
+use cell::bits_of;
 use machine::Address;
 use machine::Settings;
 use word::Flag;
@@ -227,11 +228,12 @@ pub fn consider(cell: u32, regs: &[u32; 256], cells: &[u32], s: Settings) -> Con
         ≡ toldOf (actionOf (decodeOf cell)) (stateWith (now (regs .entry)) s depth (now (cells .entry)) journal)) ⌝ }
 {
     let pc = std::num::wrapping_add_u32(regs[255], 1);
-    let opcode = (cell / 16777216) as u8;
-    let n = (cell / 65536 % 256) as u8;
-    let m = (cell / 256 % 256) as u8;
-    let l = (cell % 256) as u8;
-    let imm = (cell % 65536) as u16;
+    let bits = bits_of(cell);
+    let opcode = bits.opcode;
+    let n = bits.n;
+    let m = bits.m;
+    let l = bits.l;
+    let imm = bits.imm;
     let rn = operand(regs, n, pc);
     let x = first(opcode, rn, regs, m, pc);
     let y = second(opcode, imm, regs, l, pc);
