@@ -3,4 +3,5 @@ pub mod Safe
 pub mod Ranges
 pub mod Short
 pub mod Opcodes
+pub mod Forms
 pub mod Blind

@@ -16,7 +16,7 @@ use Rattle.cell.proofs.Tests.{count, everywhere, never, both-left, both-right}
 use Rattle.machine.specs.State.{State}
 use Rattle.effect.specs.Action.{Se, Ex, Value, R, Imm, Extended, Lower, Upper, Action, Cpswp, Ldst, Put, Split, Bz, Int, Float, operation, floats, actionOf}
 use Rattle.effect.specs.Operands.{nextOf, reg}
-use Rattle.effect.specs.Parts.{onward, still, _▸_, gain}
+use Rattle.effect.specs.Parts.{onward, still, _then_, gain}
 use Rattle.effect.specs.Effect.{effectOf}
 use Rattle.effect.specs.Refusal.{refusedBy}
 use Rattle.effect.specs.Inner.{does, toldOf, takesImm, remaining, ldstBy, transferBy}
@@ -85,7 +85,7 @@ module _ (c : ℕ) (s : State) where
   unfolding toldOf refusedBy effectOf
   branches e = rw (bz c e) (go (eqb (reg s (nOf c)) 0))
     where
-      go : (t : Bool) → does (onward (cond t (wrap (nextOf (s .regs) + seOf (immOf c))) (nextOf (s .regs))) (s .settings)) ≡ does (cond t (still s ▸ gain (seOf (immOf c))) (still s))
+      go : (t : Bool) → does (onward (cond t (wrap (nextOf (s .regs) + seOf (immOf c))) (nextOf (s .regs))) (s .settings)) ≡ does (cond t (still s then gain (seOf (immOf c))) (still s))
       go true = refl
       go false = refl
 

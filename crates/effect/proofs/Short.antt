@@ -12,7 +12,7 @@ use Rattle.machine.specs.declared.Settings.{Settings}
 use Rattle.machine.specs.State.{firstSpecial}
 use Rattle.effect.specs.declared.Answer.the-variants.{Onward}
 use Rattle.effect.specs.Operands.{modeAddress, maskAddress, behind}
-use Rattle.effect.specs.Parts.{noWrite, onward, _▸_, writeA, writeCell, store as storeAt, load as loadAt}
+use Rattle.effect.specs.Parts.{noWrite, onward, _then_, writeA, writeCell, store as storeAt, load as loadAt}
 use Rattle.effect.specs.Effect.{illegalLoad, illegalStore}
 use Rattle.effect.specs.Refusal.{faults}
 use Rattle.effect.specs.Inner.{does, loadedOf, storedOf, settingsOf, ldstBy, transferBy}
@@ -21,7 +21,7 @@ use Rattle.effect.specs.Inner.{does, loadedOf, storedOf, settingsOf, lds
 module _ (n rn rm rl v pc : ℕ) (s : Settings) (legal : illegalStore rm rn ≡ false) where
   go : (z m d l : Bool) → eqb rm 0 ≡ z → eqb rm maskAddress ≡ m → eqb rm modeAddress ≡ d → eqb rl 0 ≡ l
       → record { pc = pc; raised = 0; settings = settingsOf rm rn s; a = loadedOf rl n v; b = noWrite; reversed = false; store = storedOf rm rn; answer = Onward }
-      ≡ (onward pc s ▸ storeAt rm rn ▸ loadAt rl n v)
+      ≡ (onward pc s then storeAt rm rn then loadAt rl n v)
   go true m d true p q r u = rw (eqb-true rm 0 p, u)
   go true m d false p q r u = rw (eqb-true rm 0 p, u)
   go false true d true p q r u = rw (eqb-true rm maskAddress q, u)
@@ -35,7 +35,7 @@ module _ (n rn rm rl v pc : ℕ) (s : Settings) (legal : illegalStore rm rn ≡ 
     where
       last : (l : Bool) → eqb rl 0 ≡ l
           → record { pc = pc; raised = 0; settings = s; a = loadedOf rl n v; b = noWrite; reversed = false; store = record { used = true; address = rm; value = rn }; answer = Onward }
-          ≡ (onward pc s ▸ writeCell rm rn ▸ loadAt rl n v)
+          ≡ (onward pc s then writeCell rm rn then loadAt rl n v)
       last true u = rw u
       last false u = rw u
 
@@ -55,10 +55,10 @@ module _ (n rn m l pc : ℕ) (s : Settings) (cells : List ℕ) (not-l : faults (
   unfolding ldstBy
   idle e f = rw (← whole, e, f)
 
-  pub load : m ≡ 0 → (l ≡ 0 → ⊥) → l < firstSpecial → does (onward pc s ▸ writeA n (getD cells l 0)) ≡ transferBy n rn m l s cells (onward pc s)
+  pub load : m ≡ 0 → (l ≡ 0 → ⊥) → l < firstSpecial → does (onward pc s then writeA n (getD cells l 0)) ≡ transferBy n rn m l s cells (onward pc s)
   unfolding ldstBy behind
   load e z h = rw (← whole, e, le-ltb modeAddress l (omega arith), ne-eqb l 0 z, lt-ltb l firstSpecial h)
 
-  pub store : (m ≡ 0 → ⊥) → l ≡ 0 → m < firstSpecial → does (onward pc s ▸ writeCell m rn) ≡ transferBy n rn m l s cells (onward pc s)
+  pub store : (m ≡ 0 → ⊥) → l ≡ 0 → m < firstSpecial → does (onward pc s then writeCell m rn) ≡ transferBy n rn m l s cells (onward pc s)
   unfolding ldstBy
   store z e h = rw (← whole, e, ne-eqb m maskAddress (λ e. omega arith), ne-eqb m modeAddress (λ e. omega arith), lt-leb firstSpecial m h, ne-eqb m 0 z)

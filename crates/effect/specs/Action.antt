@@ -42,17 +42,17 @@ abbrev pub among : ℕ → List (ℕ × Action) → Action → Action
 among opcode [] other = other
 among opcode (row ∷ rows) other = cond (eqb opcode (row .0)) (row .1) (among opcode rows other)
 
--- 16 to 53: an operation on two values, or on the two turned. No opcode that is left asks for none.
+-- 16 to 53: an operation on two values, or on the two turned; of the opcodes that come here the others are reserved
 abbrev pub operation : Asked → ℕ → Value → Value → Action
 operation (Given op) n x y = Operate op n x y
 operation (Turned op) n x y = Operate op n y x
 operation Other n x y = Illegal
 
--- 6: opcode 80 to 106.
+-- the opcodes that stop 6 is for
 abbrev pub floats : ℕ → Bool
 floats opcode = within 80 106 opcode
 
--- The table of opcodes: those of three registers, then those of a register and an immediate.
+-- The table of opcodes: those of three registers, then those of a register and an immediate. A reserved cell is illegal.
 unfoldable pub actionOf : Instruction → Action
 actionOf (Registers opcode n m l) =
     among opcode
@@ -72,6 +72,6 @@ actionOf (Immediate opcode n imm) =
     ∷ (121, Bz n imm)
     ∷ (122, Int n imm)
     ∷ [])
-    -- 35 to 53 act on Rn and se(imm), into Rn.
+    -- 35 to 53: Rn is the first value, se(imm) the second
     (cond (floats opcode) Float (operation (askedOf opcode) n (R n) (Extended Se imm)))
 actionOf (Reserved c) = Illegal

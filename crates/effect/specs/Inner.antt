@@ -21,7 +21,7 @@ use Rattle.effect.specs.declared.instruction.Considered.{Considered}
 use Rattle.effect.specs.declared.instruction.Considered.the-variants.{Float, Fault, Still, Writes, Stores, Splits, Swaps, Does}
 use Rattle.effect.specs.Action.{Action}
 use Rattle.effect.specs.Operands.{maskAddress, modeAddress, behind}
-use Rattle.effect.specs.Parts.{noWrite, noStore, gets, onward, _▸_, writeA, writeB, writeCell, settle, withFlags, result, illegal, store, load}
+use Rattle.effect.specs.Parts.{noWrite, noStore, gets, onward, _then_, writeA, writeB, writeCell, settle, withFlags, result, illegal, store, load}
 use Rattle.effect.specs.Effect.{illegalLoad, illegalStore, effectOf}
 use Rattle.effect.specs.Refusal.{faults, refusedBy}
 
@@ -39,19 +39,19 @@ toldOf a s = told (refusedBy a s) (effectOf a s)
 
 -- what is said in short, as the effect that it means
 abbrev pub movingOf : Moving → Settings → Effect
-movingOf m s = onward (m .pc) s ▸ settle (withFlags (m .flags) s) (m .raised)
+movingOf m s = onward (m .pc) s then settle (withFlags (m .flags) s) (m .raised)
 
 abbrev pub writingOf : Writing → Settings → Effect
-writingOf w s = onward (w .pc) s ▸ settle (withFlags (w .flags) s) (w .raised) ▸ writeA (w .n) (w .value)
+writingOf w s = onward (w .pc) s then settle (withFlags (w .flags) s) (w .raised) then writeA (w .n) (w .value)
 
 abbrev pub storingOf : Storing → Settings → Effect
-storingOf w s = onward (w .pc) s ▸ writeCell (w .address) (w .value)
+storingOf w s = onward (w .pc) s then writeCell (w .address) (w .value)
 
 abbrev pub splittingOf : Pairing → Settings → Effect
-splittingOf w s = onward (w .pc) s ▸ writeA (w .a) (w .first) ▸ writeB (w .b) (w .second)
+splittingOf w s = onward (w .pc) s then writeA (w .a) (w .first) then writeB (w .b) (w .second)
 
 abbrev pub swappingOf : Pairing → Settings → Effect
-swappingOf w s = onward (w .pc) s ▸ writeB (w .b) (w .second) ▸ writeA (w .a) (w .first)
+swappingOf w s = onward (w .pc) s then writeB (w .b) (w .second) then writeA (w .a) (w .first)
 
 abbrev pub meant : Settings → Considered → Told
 meant s Float = refused 6
@@ -63,15 +63,15 @@ meant s (Splits w) = does (splittingOf w s)
 meant s (Swaps w) = does (swappingOf w s)
 meant s (Does e) = does e
 
--- 35 to 53 act on Rn and se(imm)
+-- the operations of a register and an immediate
 abbrev pub takesImm : ℕ → Bool
 takesImm opcode = within 35 53 opcode
 
 -- what is left when the opcodes of their own are taken: an operation's outcome, stop 6, or a reserved opcode
 abbrev pub remaining : Operated → Bool → ℕ → Effect → Told
-remaining (Wrote w) float n e = does (e ▸ result n w)
+remaining (Wrote w) float n e = does (e then result n w)
 remaining Nothing true n e = refused 6
-remaining Nothing false n e = does (e ▸ illegal)
+remaining Nothing false n e = does (e then illegal)
 
 -- LDST's parts, each by itself
 abbrev pub loadedOf : ℕ → ℕ → ℕ → Write
@@ -89,7 +89,7 @@ settingsOf p v s = record {
 
 -- LDST, from its operands' values and the value behind its load pointer
 unfoldable pub ldstBy : ℕ → ℕ → ℕ → ℕ → ℕ → Effect → Effect
-ldstBy n rn rm rl v e = cond (illegalLoad rl || illegalStore rm rn) (e ▸ illegal) (e ▸ store rm rn ▸ load rl n v)
+ldstBy n rn rm rl v e = cond (illegalLoad rl || illegalStore rm rn) (e then illegal) (e then store rm rn then load rl n v)
 
 -- the same with its stop
 unfoldable pub transferBy : ℕ → ℕ → ℕ → ℕ → Settings → List ℕ → Effect → Told

@@ -9,24 +9,24 @@ use Rattle.machine.specs.declared.Settings.{Settings}
 use Rattle.machine.specs.State.{State, firstSpecial, pcOf}
 use Rattle.effect.specs.Action.{Extension, Se, Ex, Value, R, Imm, Extended, Lower, Upper}
 
--- Fetch the cell at PC; PC becomes PC+1; then execute. Arithmetic is modulo 4,294,967,296.
+-- the PC that an instruction sees: one past its own cell, in 32 bits
 abbrev pub nextOf : List ℕ → ℕ
 nextOf regs = (pcOf regs + 1) % 4294967296
 
--- All operands are read before any write, and R255 then reads as PC+1.
+-- register i as an operand: R255 is the PC that the instruction sees
 unfoldable pub operandOf : List ℕ → ℕ → ℕ
 operandOf regs i = cond (eqb i 255) (nextOf regs) (getD regs i 0)
 
--- the value of register i
+-- Ri, before the step
 abbrev pub reg : State → ℕ → ℕ
 reg s i = operandOf (s .regs) i
 
--- se(x) or ex(x)
+-- by se or by ex
 abbrev pub extended : Extension → ℕ → ℕ
 extended Se x = seOf x
 extended Ex x = exOf x
 
--- LDLI and LDUI replace the lower or upper 16 bits and keep the rest.
+-- what a value is: Lower and Upper keep the register's other half
 abbrev pub valueOf : State → Value → ℕ
 valueOf s (R i) = reg s i
 valueOf s (Imm x) = x
@@ -34,7 +34,7 @@ valueOf s (Extended e x) = extended e x
 valueOf s (Lower i x) = reg s i / 65536 * 65536 + x
 valueOf s (Upper i x) = x * 65536 + reg s i % 65536
 
--- 1 to M-1 are memory for LDST. 0xFFFF0000 reads as the flags. 0xFFFF0001 is the trap mask. 0xFFFF0002 is the rounding mode.
+-- the addresses above memory that LDST knows
 abbrev pub flagsAddress : ℕ
 flagsAddress = 0xFFFF0000
 
@@ -44,7 +44,7 @@ maskAddress = 0xFFFF0001
 abbrev pub modeAddress : ℕ
 modeAddress = 0xFFFF0002
 
--- the value behind a load pointer
+-- the value at a load pointer: a cell, the flags, the mask or the mode
 unfoldable pub behind : List ℕ → Settings → ℕ → ℕ
 behind cells s p =
     cond (ltb p firstSpecial) (getD cells p 0)

@@ -1,4 +1,4 @@
--- The parts of what a step does, and an effect put together from them one after the other.
+-- The parts of what a step does, and an effect put together from them one after the other: document 01, 'One step'.
 use Prim.Native.Nat.{ℕ, _+_, _-_, _^_}
 use mathlib.Core.Bool.{Bool, true, false, cond}
 use lib.Bits.{bitAnd, bitOr}
@@ -14,8 +14,8 @@ use Rattle.effect.specs.declared.Answer.the-variants.{Onward}
 use Rattle.effect.specs.declared.Effect.{Effect}
 use Rattle.effect.specs.Operands.{nextOf, maskAddress, modeAddress}
 
-infixl 20 _▸_
--- The registers that a step writes, as the journal calls them, and whether b is written first. Unused parts are 0.
+infixl 20 _then_
+-- The registers that a step writes, by their names in the journal, and whether b is written before a.
 pub record Writes : Type 0 where
   pub a : Write
   pub b : Write
@@ -62,9 +62,9 @@ onward pc s =
 abbrev pub still : State → Effect
 still s = onward (nextOf (s .regs)) (s .settings)
 
--- an effect, and then
-abbrev pub _▸_ : Effect → (Effect → Effect) → Effect
-e ▸ f = f e
+-- an effect, then one part more
+abbrev pub _then_ : Effect → (Effect → Effect) → Effect
+e then f = f e
 
 -- .. register i gets v, and is the journal's a, or its b
 abbrev pub writeA : ℕ → ℕ → Effect → Effect
@@ -98,25 +98,25 @@ withMask v s = record { flags = s .flags; mask = v; mode = s .mode }
 abbrev pub withMode : ℕ → Settings → Settings
 withMode v s = record { flags = s .flags; mask = s .mask; mode = v }
 
--- An instruction writes the flags it governs as 1 or 0 and keeps the others.
+-- the flags after an operation: of those that it governs the raised ones are 1 and the others 0, and all else stays
 unfoldable pub flagsOf : ℕ → ℕ → ℕ → ℕ
 flagsOf flags governed raised = bitOr (bitAnd flags (2 ^ 32 - 1 - governed)) raised
 
 -- .. register n gets what an operation wrote, and the flags too
 abbrev pub result : ℕ → Written → Effect → Effect
-result n w e = e ▸ settle (withFlags (flagsOf (e .settings .flags) (w .governed) (w .raised)) (e .settings)) (w .raised) ▸ writeA n (w .value)
+result n w e = e then settle (withFlags (flagsOf (e .settings .flags) (w .governed) (w .raised)) (e .settings)) (w .raised) then writeA n (w .value)
 
--- .. flag 128 is set: illegal LDST and reserved opcodes only advance PC and set flag 128.
+-- .. flag 128 is set
 abbrev pub illegal : Effect → Effect
-illegal e = e ▸ settle (withFlags (bitOr (e .settings .flags) 128) (e .settings)) 128
+illegal e = e then settle (withFlags (bitOr (e .settings .flags) 128) (e .settings)) 128
 
--- .. v is stored at p, or n gets the value v from p; 0 means no transfer
+-- .. v is stored at p, or n gets the value v that is at p; nothing where p is 0
 abbrev pub store : ℕ → ℕ → Effect → Effect
 store p v e =
     cond (eqb p 0) e
-    (cond (eqb p maskAddress) (e ▸ settle (withMask v (e .settings)) 0)
-    (cond (eqb p modeAddress) (e ▸ settle (withMode v (e .settings)) 0)
-    (e ▸ writeCell p v)))
+    (cond (eqb p maskAddress) (e then settle (withMask v (e .settings)) 0)
+    (cond (eqb p modeAddress) (e then settle (withMode v (e .settings)) 0)
+    (e then writeCell p v)))
 
 abbrev pub load : ℕ → ℕ → ℕ → Effect → Effect
-load p n v e = cond (eqb p 0) e (e ▸ writeA n v)
+load p n v e = cond (eqb p 0) e (e then writeA n v)

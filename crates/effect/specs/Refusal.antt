@@ -8,14 +8,14 @@ use Rattle.machine.specs.State.{State, firstSpecial}
 use Rattle.effect.specs.Action.{Action, Cpswp, Ldst, Put, Operate, Split, Bz, Int, Float, Illegal}
 use Rattle.effect.specs.Operands.{reg}
 
--- A pointer from M to 0xFFFEFFFF is a fault.
+-- a pointer past the M cells and below the special addresses
 abbrev pub faults : ℕ → ℕ → Bool
 faults m p = leb m p && ltb p firstSpecial
 
 unfoldable pub refusedBy : Action → State → Option ℕ
--- 5: LDST at such an address, even if the other pointer is illegal.
+-- 5: either pointer, whatever the other one is
 refusedBy (Ldst n m l) s = cond (faults (length (s .cells)) (reg s l) || faults (length (s .cells)) (reg s m)) (some 5) none
--- 6: opcode 80 to 106.
+-- 6: float arithmetic
 refusedBy Float s = some 6
 -- all others are done
 refusedBy (Cpswp n m l) s = none

@@ -1,7 +1,7 @@
 // The whole effects of LDST and INT, made from numbers alone: the operands' values, the next PC, the settings.
 ghost use mathlib.Core.Path.{_≡_};
 ghost use Rattle.effect.specs.declared.Answer.the-variants.{Interrupt};
-ghost use Rattle.effect.specs.Parts.{_▸_, onward, say, illegal as illegalOf};
+ghost use Rattle.effect.specs.Parts.{_then_, onward, say, illegal as illegalOf};
 ghost use Rattle.effect.specs.Effect.{illegalStore};
 ghost use Rattle.effect.specs.Inner.{loadedOf, storedOf, settingsOf, ldstBy};
 use crate::Answer;
@@ -27,7 +27,7 @@ const NO_STORE: Store = Store {
 
 // An illegal LDST: flag 128.
 fn illegal(pc: u32, s: Settings) -> Effect
-    ensures { λ r. ⌜ r ≡ onward pc s ▸ illegalOf ⌝ }
+    ensures { λ r. ⌜ r ≡ onward pc s then illegalOf ⌝ }
 {
     Effect {
         pc,
@@ -112,7 +112,7 @@ fn illegal_store(p: u32, v: u32) -> bool
     true
 }
 
-// LDST: store old Rn at Rm, load from Rl; nothing of it is done if either is illegal.
+// LDST from its operands' values: a store at rm, a load from rl, or neither where one of them is illegal.
 pub(crate) fn ldst(n: u8, rn: u32, rm: u32, rl: u32, behind: u32, pc: u32, s: Settings) -> Effect
     ensures { λ r. ⌜ r ≡ ldstBy n rn rm rl behind (onward pc s) ⌝ }
 {
@@ -134,9 +134,9 @@ pub(crate) fn ldst(n: u8, rn: u32, rm: u32, rl: u32, behind: u32, pc: u32, s: Se
     }
 }
 
-// INT: the answer carries Rn's value and imm.
+// INT: nothing but its answer.
 pub(crate) fn int(rn: u32, imm: u16, pc: u32, s: Settings) -> Effect
-    ensures { λ r. ⌜ r ≡ onward pc s ▸ say (Interrupt rn imm) ⌝ }
+    ensures { λ r. ⌜ r ≡ onward pc s then say (Interrupt rn imm) ⌝ }
 {
     Effect {
         pc,

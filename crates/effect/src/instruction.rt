@@ -11,11 +11,12 @@ ghost use Rattle.word.specs.Word.{wrap, askedOf, operatedBy};
 ghost use Rattle.machine.specs.State.{firstSpecial, stateWith};
 ghost use Rattle.effect.specs.Action.{floats, actionOf};
 ghost use Rattle.effect.specs.Operands.{nextOf, operandOf, behind};
-ghost use Rattle.effect.specs.Parts.{_▸_, onward, writeA};
+ghost use Rattle.effect.specs.Parts.{_then_, onward, writeA};
 ghost use Rattle.effect.specs.Refusal.{faults};
 ghost use Rattle.effect.specs.Inner.{does, toldOf, meant, takesImm, remaining, transferBy};
 use crate::Effect;
 use crate::effects;
+use cell::bits_of;
 use machine::Address;
 use machine::Settings;
 use word::Flag;
@@ -67,7 +68,7 @@ pub enum Considered {
     Does(Effect),
 }
 
-// An operand's value: R255 reads as PC+1.
+// An operand's value; register 255 is the next PC.
 fn operand(regs: &[u32; 256], i: u8, next: u32) -> u32
     requires { ⌜ next ≡ nextOf (now regs) ⌝ }
     ensures { λ r. ⌜ r ≡ operandOf (now (regs .entry)) i ⌝ }
@@ -75,14 +76,14 @@ fn operand(regs: &[u32; 256], i: u8, next: u32) -> u32
     if i == 255 { next } else { regs[i as usize] }
 }
 
-// Whether an opcode is one of 80 to 106.
+// Whether stop 6 is for an opcode.
 fn is_float(opcode: u8) -> bool
     ensures { λ r. ⌜ r ≡ floats opcode ⌝ }
 {
     (80 <= opcode) & (opcode <= 106)
 }
 
-// Whether a pointer of LDST is at an address from M to 0xFFFEFFFF.
+// Whether a pointer of LDST is past the cells and below the special addresses.
 fn is_fault(size: usize, p: u32) -> bool
     ensures { λ r. ⌜ r ≡ faults size p ⌝ }
 {
@@ -106,7 +107,7 @@ fn load(cells: &[u32], s: Settings, p: u32) -> u32
     s.mode
 }
 
-// Whether an opcode is one of 35 to 53, which act on Rn and se(imm).
+// Whether an opcode is an operation of a register and an immediate.
 fn takes_imm(opcode: u8) -> bool
     ensures { λ r. ⌜ r ≡ takesImm opcode ⌝ }
 {
@@ -138,7 +139,7 @@ fn second(opcode: u8, imm: u16, regs: &[u32; 256], l: u8, next: u32) -> u32
 
 // Register n gets a value, and no flag is written.
 fn writes(n: u8, value: u32, pc: u32, s: Settings) -> Considered
-    ensures { λ r. ⌜ meant s r ≡ does (onward pc s ▸ writeA n value) ⌝ }
+    ensures { λ r. ⌜ meant s r ≡ does (onward pc s then writeA n value) ⌝ }
 {
     Considered::Writes(Writing {
         value,
@@ -210,7 +211,7 @@ fn operated(opcode: u8, n: u8, m: u32, l: u32, rn: u32, pc: u32, s: Settings) ->
     }
 }
 
-// BZ: if Rn is 0, PC gains se(imm).
+// The PC that BZ leaves.
 fn branch(rn: u32, imm: u16, pc: u32) -> u32
     ensures { λ r. ⌜ r ≡ cond (eqb rn 0) (wrap (pc + seOf imm)) pc ⌝ }
 {
@@ -227,11 +228,12 @@ pub fn consider(cell: u32, regs: &[u32; 256], cells: &[u32], s: Settings) -> Con
         ≡ toldOf (actionOf (decodeOf cell)) (stateWith (now (regs .entry)) s depth (now (cells .entry)) journal)) ⌝ }
 {
     let pc = std::num::wrapping_add_u32(regs[255], 1);
-    let opcode = (cell / 16777216) as u8;
-    let n = (cell / 65536 % 256) as u8;
-    let m = (cell / 256 % 256) as u8;
-    let l = (cell % 256) as u8;
-    let imm = (cell % 65536) as u16;
+    let bits = bits_of(cell);
+    let opcode = bits.opcode;
+    let n = bits.n;
+    let m = bits.m;
+    let l = bits.l;
+    let imm = bits.imm;
     let rn = operand(regs, n, pc);
     let x = first(opcode, rn, regs, m, pc);
     let y = second(opcode, imm, regs, l, pc);

@@ -14,20 +14,8 @@ element-copy-out-wrapping-add-u32 c = search needs
 wrapping-add-u32-requires : tie.Need-wrapping-add-u32-requires
 wrapping-add-u32-requires c κs = search needs
 
-cast-opcode : tie.Need-cast-opcode
-cast-opcode c = search needs
-
-cast-n : tie.Need-cast-n
-cast-n c = search needs
-
-cast-m : tie.Need-cast-m
-cast-m c = search needs
-
-cast-l : tie.Need-cast-l
-cast-l c = search needs
-
-cast-imm : tie.Need-cast-imm
-cast-imm c = search needs
+bits-of-requires : tie.Need-bits-of-requires
+bits-of-requires c κs = search needs
 
 operand-requires : tie.Need-operand-requires
 operand-requires c κs = search needs
@@ -118,49 +106,49 @@ operated-requires c κs = search needs
 
 returns : tie.Need-returns
 unfolding toldOf refusedBy effectOf
-returns c = λ depth journal. rw (cpswp _ (c .match .keys1), c .before .before .first .ensures, c .match .keys1, c .before .before .before .operand .ensures, c .before .before .before .before .wrapping-add-u32 .ensures)
+returns c = λ depth journal. rw (cpswp _ (rw (c .before .before .before .before .bits-of .ensures) at (c .match .keys1)), c .before .before .first .ensures, c .match .keys1, c .before .before .before .operand .ensures, c .before .before .before .before .before .wrapping-add-u32 .ensures, c .before .before .before .before .bits-of .ensures)
 
 returns-2 : tie.Need-returns-2
-returns-2 c = λ depth journal. rw (c .transfer .ensures, c .before .before .before .first .ensures, c .before .before .second .ensures, c .before .match .keys2, c .before .before .before .before .operand .ensures, c .before .before .before .before .before .wrapping-add-u32 .ensures) (transfers _ _ (c .before .match .keys2))
+returns-2 c = λ depth journal. rw (c .transfer .ensures, c .before .before .before .first .ensures, c .before .before .second .ensures, c .before .match .keys2, c .before .before .before .before .operand .ensures, c .before .before .before .before .before .before .wrapping-add-u32 .ensures, c .before .before .before .before .before .bits-of .ensures) (transfers _ _ (rw (c .before .before .before .before .before .bits-of .ensures) at (c .before .match .keys2)))
 
 returns-3 : tie.Need-returns-3
 unfolding toldOf refusedBy effectOf
-returns-3 c = λ depth journal. rw (ldli _ (c .before .match .keys3), c .writes .ensures, c .before .before .before .before .operand .ensures, c .before .before .before .before .before .wrapping-add-u32 .ensures)
+returns-3 c = λ depth journal. rw (ldli _ (rw (c .before .before .before .before .before .bits-of .ensures) at (c .before .match .keys3)), c .writes .ensures, c .before .before .before .before .operand .ensures, c .before .before .before .before .before .before .wrapping-add-u32 .ensures, c .before .before .before .before .before .bits-of .ensures)
 
 returns-4 : tie.Need-returns-4
 unfolding toldOf refusedBy effectOf
-returns-4 c = λ depth journal. rw (ldui _ (c .before .match .keys4), c .writes2 .ensures, c .before .before .before .before .operand .ensures, c .before .before .before .before .before .wrapping-add-u32 .ensures)
+returns-4 c = λ depth journal. rw (ldui _ (rw (c .before .before .before .before .before .bits-of .ensures) at (c .before .match .keys4)), c .writes2 .ensures, c .before .before .before .before .operand .ensures, c .before .before .before .before .before .before .wrapping-add-u32 .ensures, c .before .before .before .before .before .bits-of .ensures)
 
 returns-5 : tie.Need-returns-5
 unfolding toldOf refusedBy effectOf
-returns-5 c = λ depth journal. rw (ldliz _ (c .before .match .keys5), c .writes3 .ensures, c .before .before .before .before .before .wrapping-add-u32 .ensures)
+returns-5 c = λ depth journal. rw (ldliz _ (rw (c .before .before .before .before .before .bits-of .ensures) at (c .before .match .keys5)), c .writes3 .ensures, c .before .before .before .before .before .before .wrapping-add-u32 .ensures, c .before .before .before .before .before .bits-of .ensures)
 
 returns-6 : tie.Need-returns-6
 unfolding toldOf refusedBy effectOf
-returns-6 c = λ depth journal. rw (ldlise _ (c .before .before .match .keys6), c .writes4 .ensures, c .before .se .ensures, c .before .before .before .before .before .before .wrapping-add-u32 .ensures)
+returns-6 c = λ depth journal. rw (ldlise _ (rw (c .before .before .before .before .before .before .bits-of .ensures) at (c .before .before .match .keys6)), c .writes4 .ensures, c .before .se .ensures, c .before .before .before .before .before .before .before .wrapping-add-u32 .ensures, c .before .before .before .before .before .before .bits-of .ensures)
 
 returns-7 : tie.Need-returns-7
 unfolding toldOf refusedBy effectOf
-returns-7 c = λ depth journal. rw (ldlif _ (c .before .before .match .keys7), c .writes5 .ensures, c .before .ex .ensures, c .before .before .before .before .before .before .wrapping-add-u32 .ensures)
+returns-7 c = λ depth journal. rw (ldlif _ (rw (c .before .before .before .before .before .before .bits-of .ensures) at (c .before .before .match .keys7)), c .writes5 .ensures, c .before .ex .ensures, c .before .before .before .before .before .before .before .wrapping-add-u32 .ensures, c .before .before .before .before .before .before .bits-of .ensures)
 
 returns-8 : tie.Need-returns-8
 unfolding toldOf refusedBy effectOf
-returns-8 c = λ depth journal. rw (split _ (c .before .before .match .keys8), c .before .se2 .ensures, c .se3 .ensures, c .before .before .before .before .before .operand .ensures, c .before .before .before .before .before .before .wrapping-add-u32 .ensures)
+returns-8 c = λ depth journal. rw (split _ (rw (c .before .before .before .before .before .before .bits-of .ensures) at (c .before .before .match .keys8)), c .before .se2 .ensures, c .se3 .ensures, c .before .before .before .before .before .operand .ensures, c .before .before .before .before .before .before .before .wrapping-add-u32 .ensures, c .before .before .before .before .before .before .bits-of .ensures)
 
 returns-9 : tie.Need-returns-9
 unfolding toldOf refusedBy effectOf
-returns-9 c = λ depth journal. rw (fsplit _ (c .before .before .match .keys9), c .before .ex2 .ensures, c .ex3 .ensures, c .before .before .before .before .before .operand .ensures, c .before .before .before .before .before .before .wrapping-add-u32 .ensures)
+returns-9 c = λ depth journal. rw (fsplit _ (rw (c .before .before .before .before .before .before .bits-of .ensures) at (c .before .before .match .keys9)), c .before .ex2 .ensures, c .ex3 .ensures, c .before .before .before .before .before .operand .ensures, c .before .before .before .before .before .before .before .wrapping-add-u32 .ensures, c .before .before .before .before .before .before .bits-of .ensures)
 
 returns-10 : tie.Need-returns-10
-returns-10 c = λ depth journal. rw (c .branch .ensures, c .before .before .before .before .operand .ensures, c .before .before .before .before .before .wrapping-add-u32 .ensures) (branches _ _ (c .before .match .keys10))
+returns-10 c = λ depth journal. rw (c .branch .ensures, c .before .before .before .before .operand .ensures, c .before .before .before .before .before .before .wrapping-add-u32 .ensures, c .before .before .before .before .before .bits-of .ensures) (branches _ _ (rw (c .before .before .before .before .before .bits-of .ensures) at (c .before .match .keys10)))
 
 returns-11 : tie.Need-returns-11
 unfolding toldOf refusedBy effectOf
-returns-11 c = λ depth journal. rw (int _ (c .before .match .keys11), c .int .ensures, c .before .before .before .before .operand .ensures, c .before .before .before .before .before .wrapping-add-u32 .ensures)
+returns-11 c = λ depth journal. rw (int _ (rw (c .before .before .before .before .before .bits-of .ensures) at (c .before .match .keys11)), c .int .ensures, c .before .before .before .before .operand .ensures, c .before .before .before .before .before .before .wrapping-add-u32 .ensures, c .before .before .before .before .before .bits-of .ensures)
 
 returns-12 : tie.Need-returns-12
-returns-12 c = λ depth journal. let rest = c .before .match .rest in
-    rw (c .operated .ensures, c .before .before .before .first .ensures, c .before .before .second .ensures, c .before .before .before .before .operand .ensures, c .before .before .before .before .before .wrapping-add-u32 .ensures) (all-others _ (search needs) (ne-eqb _ _ (rest .0 .0 .0 .0 .0 .0 .0 .0 .0 .0 .1)) (ne-eqb _ _ (rest .0 .0 .0 .0 .0 .0 .0 .0 .0 .1)) (ne-eqb _ _ (rest .0 .0 .0 .0 .0 .0 .0 .0 .1)) (ne-eqb _ _ (rest .0 .0 .0 .0 .0 .0 .0 .1)) (ne-eqb _ _ (rest .0 .0 .0 .0 .0 .0 .1)) (ne-eqb _ _ (rest .0 .0 .0 .0 .0 .1)) (ne-eqb _ _ (rest .0 .0 .0 .0 .1)) (ne-eqb _ _ (rest .0 .0 .0 .1)) (ne-eqb _ _ (rest .0 .0 .1)) (ne-eqb _ _ (rest .0 .1)) (ne-eqb _ _ (rest .1)) _)
+returns-12 c = λ depth journal. let rest = rw (c .before .before .before .before .before .bits-of .ensures) at (c .before .match .rest) in
+    rw (c .operated .ensures, c .before .before .before .first .ensures, c .before .before .second .ensures, c .before .before .before .before .operand .ensures, c .before .before .before .before .before .before .wrapping-add-u32 .ensures, c .before .before .before .before .before .bits-of .ensures) (all-others _ (search needs) (ne-eqb _ _ (rest .0 .0 .0 .0 .0 .0 .0 .0 .0 .0 .1)) (ne-eqb _ _ (rest .0 .0 .0 .0 .0 .0 .0 .0 .0 .1)) (ne-eqb _ _ (rest .0 .0 .0 .0 .0 .0 .0 .0 .1)) (ne-eqb _ _ (rest .0 .0 .0 .0 .0 .0 .0 .1)) (ne-eqb _ _ (rest .0 .0 .0 .0 .0 .0 .1)) (ne-eqb _ _ (rest .0 .0 .0 .0 .0 .1)) (ne-eqb _ _ (rest .0 .0 .0 .0 .1)) (ne-eqb _ _ (rest .0 .0 .0 .1)) (ne-eqb _ _ (rest .0 .0 .1)) (ne-eqb _ _ (rest .0 .1)) (ne-eqb _ _ (rest .1)) _)
 
 pub consider-spec : {M : Type 1} → statement M
 consider-spec =
@@ -168,11 +156,7 @@ consider-spec =
     (tie.spec
     element-copy-out-wrapping-add-u32
     wrapping-add-u32-requires
-    cast-opcode
-    cast-n
-    cast-m
-    cast-l
-    cast-imm
+    bits-of-requires
     operand-requires
     first-requires
     second-requires
