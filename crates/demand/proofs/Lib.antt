@@ -3,6 +3,7 @@ pub mod Stops
 pub mod Outcome
 pub mod Repeat
 pub mod Return
+pub mod Illegal
 pub mod Travel
 pub mod Loaded
 pub mod Once

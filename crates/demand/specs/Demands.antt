@@ -1,6 +1,6 @@
 -- Demands 1 and 2: what each call may say; that a run is the definition's step repeated, and a going back its step back, until one of
 -- the stops of document 01, 'Stops of step, run and back'.
-use Prim.Native.Nat.{ℕ, suc, _+_, _<_}
+use Prim.Native.Nat.{ℕ, suc, _+_, _/_, _%_, _<_}
 use mathlib.Core.Path.{_≡_}
 use mathlib.Core.Bool.{Bool, true, false, _||_}
 use mathlib.Core.Option.{none, some}
@@ -40,6 +40,10 @@ loadSays = 0 ∷ 12 ∷ 41 ∷ 42 ∷ 43 ∷ 44 ∷ 46 ∷ 45 ∷ 10 ∷ 47 ∷ 
 
 abbrev pub saveSays : List ℕ
 saveSays = 0 ∷ 12 ∷ 10 ∷ 48 ∷ []
+
+-- flag 128, illegal, of a state: 1 or 0
+abbrev pub illegalIn : State → ℕ
+illegalIn s = s .settings .flags / 128 % 2
 
 -- each of the first k steps is done and goes on
 abbrev pub GoesOn : ℕ → State → Type 0

@@ -51,11 +51,12 @@ raised-within Ugt m l n flags = refl
 raised-within Sgt m l n flags = refl
 raised-within Eq m l n flags = refl
 
-sdiv-governed : (t : Bool) (q : ℤ) (n : ℕ) → sdivBy t q n .governed < 512
+sdiv-governed : (t : Bool) (q : ℤ) (n : ℕ) → sdivBy t q n .governed < 32
 sdiv-governed true q n = omega arith
 sdiv-governed false q n = omega arith
 
-pub governed-below : (op : Op) (m l n flags : ℕ) → writtenOf op m l n flags .governed < 512
+-- none of them is flag 128 or 256, which no instruction clears
+pub governed-below : (op : Op) (m l n flags : ℕ) → writtenOf op m l n flags .governed < 32
 unfolding writtenOf
 governed-below Add m l n flags = omega arith
 governed-below Adc m l n flags = omega arith
