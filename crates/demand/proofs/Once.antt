@@ -25,7 +25,7 @@ use Rattle.line.specs.Answers.{shownOf}
 use Rattle.line.proofs.Lines as lines
 use Rattle.reader.specs.declared.ReadLine.{ReadLine}
 use Rattle.reader.specs.Reader as reader
-use Rattle.reader.specs.Answers.{readReply}
+use Rattle.reader.specs.Answers.{readReply, Small}
 use Rattle.reader.proofs.RoundTrip as trips
 use Rattle.machine.specs.declared.Settings.{Settings}
 use Rattle.effect.specs.declared.instruction.Considered.{Considered}
@@ -88,7 +88,7 @@ pub print-once : (c : ℕ) (before : List ℕ) (r t : Printed) (room room' : Lis
 print-once c before r t room room' p q = lines.print-once r t room room' (unique p q)
 
 -- a cell that is read is one of 32 bits
-pub read-once : (text : List ℕ) (r t : ReadLine) → trips.Small r → reader.Reads text (readReply r) → reader.Reads text (readReply t) → r ≡ t
+pub read-once : (text : List ℕ) (r t : ReadLine) → Small r → reader.Reads text (readReply r) → reader.Reads text (readReply t) → r ≡ t
 read-once = trips.read-once
 
 -- the stop or the effect, whether it is said in short or at length

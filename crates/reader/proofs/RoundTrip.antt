@@ -14,7 +14,7 @@ use Rattle.line.proofs.Lines.{printed}
 use Rattle.reader.specs.declared.ReadLine.{ReadLine}
 use Rattle.reader.specs.declared.ReadLine.the-variants.{Cell, NoLine}
 use Rattle.reader.specs.Reader.{Reads}
-use Rattle.reader.specs.Answers.{readReply}
+use Rattle.reader.specs.Answers.{readReply, Small}
 use Rattle.reader.specs.Reading.{readOf}
 use Rattle.reader.proofs.Answers.{read-back}
 
@@ -45,11 +45,6 @@ heard-said NoLine = refl
 
 pub said-once : (p q : ReadLine) → readReply p ≡ readReply q → p ≡ q
 said-once p q e = sym (heard-said p) ∙ ap heard-line e ∙ heard-said q
-
--- an answer of 32 bits
-abbrev pub Small : ReadLine → Type 0
-Small (Cell c) = c < 2 ^ 32
-Small NoLine = Unit {0}
 
 reads-same : (text : List ℕ) (p q : ReadLine) → Small p → Reads text (readReply p) → Reads text (readReply q) → readReply p ≡ readReply q
 reads-same text (Cell c) q h r s = sym (s .cell c h .1 (r .cell c h .0 refl))
