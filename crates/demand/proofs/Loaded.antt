@@ -4,7 +4,7 @@ use Prim.Native.Nat.{ℕ}
 use mathlib.Core.List.{List}
 use Rattle.machine.specs.State.{State, stateOf}
 use Rattle.job.specs.Job.{loadOf}
-use Rattle.job.proofs.Numbers.{Bytes}
+use Rattle.lent.proofs.Numbers.{Bytes}
 use Rattle.job.proofs.Lawful.{Loads, some-cells, few-cells, loaded-lawful, loaded-depth, loaded-cells}
 use Rattle.demand.specs.Journey.{Call, setOut, travel, Arrived}
 use Rattle.demand.proofs.Travel.{journey}

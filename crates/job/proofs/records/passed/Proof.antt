@@ -1,11 +1,10 @@
 -- `job::records::passed` meets its contract: in each arm the kind is known, and the payload of its length holds what is read.
 -- Assumes nothing.
 use native.Mathlib.Omega.{arith}
-use lib.ListN.{length}
 use borrow.Author.Needs.{needs}
 use Rattle.job.specs.declared.records.Kind.the-variants.{Run}
-use Rattle.job.proofs.Rules.{as-kind, register-size}
-use Rattle.job.proofs.Numbers.{below-1}
+use Rattle.job.proofs.Rules.{as-kind}
+use Rattle.lent.proofs.Numbers.{below-1}
 use Rattle.job.proofs.records.passed.Statement.{statement}
 use Rattle.job.proofs.records.passed.Tie as tie
 
@@ -19,7 +18,7 @@ enum-told-2 : tie.Need-enum-told-2
 enum-told-2 c = search needs
 
 number-requires : tie.Need-number-requires
-number-requires c κs = let s = register-size _ (length (c .before .before .before .args .payload .now)) (c .enum-told2 .given .1) (c .before .before .before .pre) in (omega arith, omega arith)
+number-requires c κs = search needs
 
 add-t7 : tie.Need-add-t7
 add-t7 c = let b = below-1 0 (c .before .before .before .before .args .payload .now) (λ k. c .before .before .before .shared-slice-known .given k .fits) in

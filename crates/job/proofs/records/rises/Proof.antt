@@ -1,9 +1,6 @@
--- `job::records::rises` meets its contract: in each arm the kind is known, and the payload of its length holds the number that is read.
+-- `job::records::rises` meets its contract: in each arm the kind is known.
 -- Assumes nothing.
-use native.Mathlib.Omega.{arith}
-use lib.ListN.{length}
 use borrow.Author.Needs.{needs}
-use Rattle.job.proofs.Rules.{run-size, register-size}
 use Rattle.job.proofs.records.rises.Statement.{statement}
 use Rattle.job.proofs.records.rises.Tie as tie
 
@@ -11,13 +8,13 @@ enum-told : tie.Need-enum-told
 enum-told c = search needs
 
 number-requires : tie.Need-number-requires
-number-requires c κs = let s = run-size _ (length (c .before .before .before .args .payload .now)) (c .enum-told .given .1) (c .before .before .before .pre) in (omega arith, omega arith)
+number-requires c κs = search needs
 
 enum-told-2 : tie.Need-enum-told-2
 enum-told-2 c = search needs
 
 number-requires-2 : tie.Need-number-requires-2
-number-requires-2 c κs = let s = register-size _ (length (c .before .before .before .args .payload .now)) (c .enum-told2 .given .1) (c .before .before .before .pre) in (omega arith, omega arith)
+number-requires-2 c κs = search needs
 
 enum-told-3 : tie.Need-enum-told-3
 enum-told-3 c = search needs
