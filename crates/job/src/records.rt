@@ -106,7 +106,7 @@ fn rises(past: Past, kind: Kind, payload: &[u8]) -> bool
     match kind {
         Kind::Run => past.end <= number(payload, 0, 2),
         Kind::Register => past.next <= number(payload, 0, 1),
-        Kind::Setup => past.rank < 3,
+        Kind::Setup => past.rank < rank(kind),
         Kind::End => true,
         Kind::Other => true,
     }
@@ -173,19 +173,20 @@ pub(crate) fn passed(past: Past, kind: Kind, payload: &[u8]) -> Past
     requires { ⌜ fitsOf kind (length (now payload)) ≡ true ⌝ }
     ensures { λ r. ⌜ r ≡ pastOf past kind (now (payload .entry)) ⌝ }
 {
+    let place = rank(kind);
     match kind {
         Kind::Run => Past {
-            rank: 1,
+            rank: place,
             end: run_end(payload),
             next: past.next,
         },
         Kind::Register => Past {
-            rank: 2,
+            rank: place,
             end: past.end,
             next: number(payload, 0, 1) + 1,
         },
         Kind::Setup => Past {
-            rank: 3,
+            rank: place,
             end: past.end,
             next: past.next,
         },

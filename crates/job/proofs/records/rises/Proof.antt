@@ -1,5 +1,4 @@
 -- `job::records::rises` meets its contract: in each arm the kind is known.
--- Assumes nothing.
 use borrow.Author.Needs.{needs}
 use Rattle.job.proofs.records.rises.Statement.{statement}
 use Rattle.job.proofs.records.rises.Tie as tie
@@ -19,6 +18,9 @@ number-requires-2 c κs = search needs
 enum-told-3 : tie.Need-enum-told-3
 enum-told-3 c = search needs
 
+rank-requires : tie.Need-rank-requires
+rank-requires c κs = search needs
+
 enum-told-4 : tie.Need-enum-told-4
 enum-told-4 c = search needs
 
@@ -32,7 +34,7 @@ returns-2 : tie.Need-returns-2
 returns-2 c = rw (c .before .before .enum-told2 .given .1, c .before .number2 .ensures)
 
 returns-3 : tie.Need-returns-3
-returns-3 c = rw (c .before .enum-told3 .given .1)
+returns-3 c = rw (c .before .rank .ensures, c .before .before .enum-told3 .given .1)
 
 returns-4 : tie.Need-returns-4
 returns-4 c = search needs
@@ -49,6 +51,7 @@ rises-spec =
     enum-told-2
     number-requires-2
     enum-told-3
+    rank-requires
     enum-told-4
     enum-told-5
     returns
