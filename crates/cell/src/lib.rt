@@ -23,7 +23,7 @@ pub enum Operands {
     Immediate { n: u8, imm: u16 },
 }
 
-// What encoding answers: the cell, refusal 21 for a reserved opcode, or refusal 22 for operands of the other form.
+// What encoding answers: the cell; or 21, the opcode is reserved; or 22, the operands are not of its form.
 pub enum Encoded {
     Cell(u32),
     ReservedOpcode,

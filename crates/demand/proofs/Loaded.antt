@@ -2,7 +2,8 @@
 -- Assumes nothing.
 use Prim.Native.Nat.{ℕ}
 use mathlib.Core.List.{List}
-use Rattle.job.specs.Loads.{Bytes, Loads}
+use Rattle.lent.specs.Little.{Bytes}
+use Rattle.job.specs.Loads.{Loads}
 use Rattle.job.proofs.Lawful.{some-cells, few-cells, loaded-lawful, loaded-depth, loaded-cells}
 use Rattle.demand.specs.Journey.{Call, setOut, travel, loaded, Arrived}
 use Rattle.demand.proofs.Travel.{journey}

@@ -2,7 +2,7 @@
 -- are equal. A contract that is an equation `r ≡ definition` is answered by one law; the others state what was said, which determines the
 -- answer.
 -- Assumes nothing.
-use Prim.Native.Nat.{ℕ}
+use Prim.Native.Nat.{ℕ, min}
 use mathlib.Core.Path.{_≡_, refl, sym, ap, _∙_}
 use mathlib.Core.Bool.{Bool, not}
 use mathlib.Core.Option.{Option, none, some}
@@ -17,6 +17,8 @@ use Rattle.cell.specs.declared.Encoded.{Encoded}
 use Rattle.cell.specs.Cell as cell
 use Rattle.cell.specs.Answers.{encodedReply}
 use Rattle.cell.proofs.RoundTrip as cells
+use lib.ListN.{length, replicate}
+use Rattle.lent.specs.Little.{bytesOf, numberAt}
 use Rattle.text.specs.Text.{Added}
 use Rattle.text.proofs.Adds as text
 use Rattle.line.specs.declared.Printed.{Printed}
@@ -78,6 +80,19 @@ decode-once c r t = unique
 
 pub encode-once : (opcode : ℕ) (o : Operands) (r t : Encoded) → encodedReply r ≡ cell.encodeOf opcode o → encodedReply t ≡ cell.encodeOf opcode o → r ≡ t
 encode-once opcode o r t p q = cells.said-once r t (unique p q)
+
+-- lengths, words and bytes that are lent
+pub least-once : (a b r t : ℕ) → r ≡ min a b → t ≡ min a b → r ≡ t
+least-once a b r t = unique
+
+pub clear-once : (before after after' : List ℕ) → after ≡ replicate (length before) 0 → after' ≡ replicate (length before) 0 → after ≡ after'
+clear-once before after after' = unique
+
+pub little-once : (at width : ℕ) (bytes : List ℕ) (r t : ℕ) → r ≡ numberAt at (min width 4) bytes → t ≡ numberAt at (min width 4) bytes → r ≡ t
+little-once at width bytes r t = unique
+
+pub bytes-once : (number : ℕ) (r t : List ℕ) → r ≡ bytesOf 4 number → t ≡ bytesOf 4 number → r ≡ t
+bytes-once number r t = unique
 
 -- what is put into a text, whatever the piece: `put`, `put_decimal`, `put_number`, `put_word`
 pub put-once : {before piece after after' : List ℕ} {at r t : ℕ} → Added before at piece after r → Added before at piece after' t → (after ≡ after') × (r ≡ t)

@@ -15,9 +15,10 @@ use borrow.Author.Tests.{eqb-true, eqb-false, le-leb, lt-leb, lt-ltb, le-ltb, eq
 use Rattle.machine.specs.declared.Settings.{Settings}
 use Rattle.machine.specs.State.{InRange, mostCells, freshSettings, badSettings}
 use Rattle.machine.proofs.Tests.{picked}
-use Rattle.job.specs.Job.{littleOf, bytesOf, numberAt, kindBy, knownOf, fitsOf, endsOf, baseOf, countOf, wordsOf, cellsIn, registerOf, registerValue, settingsIn, sizeOf, kindOf, payloadOf, pastOf, inOrder, withinOf, settingsFit, passed, fateOf, refusalFrom, Content, contentOf, contentFrom}
+use Rattle.lent.specs.Little.{littleOf, bytesOf, numberAt}
+use Rattle.job.specs.Job.{kindBy, knownOf, fitsOf, endsOf, baseOf, countOf, wordsOf, cellsIn, registerOf, registerValue, settingsIn, sizeOf, kindOf, payloadOf, pastOf, inOrder, withinOf, settingsFit, passed, fateOf, refusalFrom, Content, contentOf, contentFrom}
 use Rattle.saver.specs.Saving.{recordOf, wordBytes, runRecord, runsFrom, valueRecord, valuesFrom, freshOf, setupOf}
-use Rattle.job.proofs.Numbers.{bound, take-bytes, drop-bytes, little-bytes}
+use Rattle.lent.proofs.Numbers.{bound, take-bytes, drop-bytes, little-bytes}
 use Rattle.job.proofs.Words.{number-drop}
 use Rattle.job.proofs.Walk.{SoFar}
 use Rattle.job.proofs.Rules.{and-left, and-right}

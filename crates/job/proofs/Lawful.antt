@@ -19,8 +19,9 @@ use Rattle.job.specs.declared.records.Kind.{Kind}
 use Rattle.job.specs.declared.records.Kind.the-variants.{Run, Register, Setup, End, Other}
 use Rattle.job.specs.declared.records.Past.{Past}
 use Rattle.job.specs.Job.{wordsOf, cellsIn, baseOf, countOf, registerOf, registerValue, settingsIn, knownOf, fitsOf, endsOf, sizeOf, kindOf, payloadOf, inOrder, withinOf, settingsFit, pastOf, nothingYet, Fate, refused, last, onward, passed, fateOf, Notice, refusedAt, endOf, followed, refusalFrom, refusalIn, Content, contentOf, contentFrom, unnamed, loadedBy, loadOf}
-use Rattle.job.specs.Loads.{Bytes, Loads}
-use Rattle.job.proofs.Numbers.{bytes-drop, bytes-take, below-4}
+use Rattle.lent.specs.Little.{Bytes}
+use Rattle.lent.proofs.Numbers.{bytes-drop, bytes-take, below-4}
+use Rattle.job.specs.Loads.{Loads}
 use Rattle.machine.proofs.Checks.{not-above}
 use Rattle.job.proofs.Walk.{passing}
 

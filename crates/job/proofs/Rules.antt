@@ -7,8 +7,7 @@ use native.Mathlib.Omega.{arith}
 use lib.Dec.{leb, eqb}
 use borrow.Author.Tests.{leb-true, eqb-true}
 use Rattle.job.specs.declared.records.Kind.{Kind}
-use mathlib.Core.List.{List, _++_, append-nil}
-use lib.ListN.{length, drop, replicate, drop-of-length-le}
+use mathlib.Core.List.{List}
 use Rattle.job.specs.declared.records.Kind.the-variants.{Run, Register, Setup, End, Other}
 use Rattle.job.specs.Job.{fitsOf, baseOf, countOf, withinOf}
 use Rattle.job.specs.Inner.{Sound}
@@ -53,12 +52,6 @@ sizes Register n h = omega (arith, register-size Register n refl h)
 sizes Setup n h = omega (arith, setup-size Setup n refl h)
 sizes End n h = omega (arith, eqb-true n 0 h)
 sizes Other n h = let z : _≡_ {A = ℕ} 0 1 = cc in absurd (omega arith)
-
--- where a loop that filled a list ends
-pub fill-over : (l : List ℕ) (i : ℕ) → i ≤ length l → length l ≤ i → replicate i 0 ++ drop i l ≡ replicate (length l) 0
-fill-over l i p q =
-    let e : i ≡ length l = omega arith in
-    rw (drop-of-length-le l {i = i} q, append-nil, e)
 
 -- a run that is sound ends within the cells
 pub within-cells : (m : ℕ) (k : Kind) (payload : List ℕ) → k ≡ Run → Sound m k payload → baseOf payload + countOf payload ≤ m

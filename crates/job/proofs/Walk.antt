@@ -13,7 +13,8 @@ use borrow.Author.Tests.{ltb-false, lt-ltb, not-false}
 use Rattle.job.specs.declared.records.Kind.{Kind}
 use Rattle.job.specs.declared.records.Past.{Past}
 use Rattle.job.specs.declared.reading.Look.{Look}
-use Rattle.job.specs.Job.{numberAt, kindBy, knownOf, fitsOf, endsOf, sizeOf, kindOf, payloadOf, pastOf, nothingYet, inOrder, withinOf, settingsFit, Fate, refused, last, onward, passed, fateOf, Notice, refusedAt, followed, refusalFrom, Content, contentOf, contentFrom}
+use Rattle.lent.specs.Little.{numberAt}
+use Rattle.job.specs.Job.{kindBy, knownOf, fitsOf, endsOf, sizeOf, kindOf, payloadOf, pastOf, nothingYet, inOrder, withinOf, settingsFit, Fate, refused, last, onward, passed, fateOf, Notice, refusedAt, followed, refusalFrom, Content, contentOf, contentFrom}
 use Rattle.job.specs.Inner.{lookedOf, Sound}
 
 -- what the records so far leave to the order, by a name for the crates above

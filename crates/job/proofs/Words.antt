@@ -6,7 +6,8 @@ use mathlib.Core.List.{List}
 use native.Mathlib.Omega.{arith}
 use lib.ListN.{length, set, drop}
 use lib.Seq.{sets, drop-drop}
-use Rattle.job.specs.Job.{numberAt, wordsOf}
+use Rattle.lent.specs.Little.{numberAt}
+use Rattle.job.specs.Job.{wordsOf}
 
 pub number-drop : (a b w : ℕ) (l : List ℕ) → numberAt a w (drop b l) ≡ numberAt (b + a) w l
 unfolding numberAt

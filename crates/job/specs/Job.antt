@@ -1,6 +1,6 @@
 -- What a job means, from its bytes and the lent cells to the loaded machine and cells, or a refusal: document 01, 'Lines and jobs',
 -- from 'A job is records' on.
-use Prim.Native.Nat.{ℕ, zero, suc, _+_, _-_, _*_, _/_, _%_}
+use Prim.Native.Nat.{ℕ, zero, suc, _+_, _-_, _/_, _%_}
 use mathlib.Core.Bool.{Bool, true, false, cond, not, _&&_}
 use mathlib.Core.Option.{Option, none, some}
 use mathlib.Core.List.{List, [], _∷_}
@@ -10,24 +10,10 @@ use lib.Seq.{sets}
 use Rattle.machine.specs.declared.Settings.{Settings}
 use Rattle.machine.specs.declared.Machine.{Machine}
 use Rattle.machine.specs.State.{freshSettings, freshMachine, badCells, badSettings}
+use Rattle.lent.specs.Little.{numberAt}
 use Rattle.job.specs.declared.records.Kind.{Kind}
 use Rattle.job.specs.declared.records.Kind.the-variants.{Run, Register, Setup, End, Other}
 use Rattle.job.specs.declared.records.Past.{Past}
-
--- ---- numbers, least byte first
-
--- the number that some bytes hold, and the bytes of a number, over the width
-unfoldable pub littleOf : List ℕ → ℕ
-littleOf [] = 0
-littleOf (b ∷ bytes) = b + 256 * littleOf bytes
-
-unfoldable pub bytesOf : ℕ → ℕ → List ℕ
-bytesOf zero v = []
-bytesOf (suc width) v = v % 256 ∷ bytesOf width (v / 256)
-
--- the number of that width at a place
-unfoldable pub numberAt : ℕ → ℕ → List ℕ → ℕ
-numberAt at width bytes = littleOf (take width (drop at bytes))
 
 -- ---- a record, and its kinds
 

@@ -3,14 +3,13 @@ ghost use mathlib.Core.Path.{_≡_};
 ghost use Rattle.job.specs.Job.{loadOf};
 ghost use Rattle.job.specs.Answers.{loadWith};
 
-mod little;
 mod reading;
 mod records;
 
+use lent::clear;
 use machine::Machine;
 use machine::good_cells;
 use reading::carry_out;
-use reading::clear;
 use reading::examine;
 use refusal::Refusal;
 

@@ -3,13 +3,12 @@ ghost use mathlib.Core.Path.{_≡_};
 ghost use mathlib.Core.Bool.{true};
 ghost use mathlib.Core.Option.{none};
 ghost use Prim.Native.Nat.{_+_, _*_, _≤_};
-ghost use lib.ListN.{length, set, replicate};
+ghost use lib.ListN.{length, set};
 ghost use lib.Seq.{sets};
 ghost use Rattle.machine.specs.State.{freshSettings};
 ghost use Rattle.job.specs.Job.{fitsOf, registerOf, registerValue, nothingYet, fateOf, payloadFate, refusalFrom, baseOf, cellsIn, wordsOf, contentOf, contentFrom};
 ghost use Rattle.job.specs.Inner.{lookedOf, refusalOf, contentWith, Sound};
 use crate::Answer;
-use crate::little::number;
 use crate::records::Kind;
 use crate::records::Past;
 use crate::records::ends;
@@ -21,6 +20,7 @@ use crate::records::passed;
 use crate::records::settings_in;
 use crate::records::settled;
 use crate::records::within;
+use lent::number;
 use machine::Settings;
 use refusal::Refusal;
 
@@ -110,17 +110,6 @@ pub(crate) fn examine(job: &[u8], m: usize) -> Answer
     }
 }
 
-// All cells 0.
-pub(crate) fn clear(cells: &mut [u32])
-    ensures { λ r. ⌜ now (cells .exit) ≡ replicate (length (now (cells .entry))) 0 ⌝ }
-{
-    let mut i = 0;
-    while i < cells.len() {
-        cells[i] = 0;
-        i = i + 1;
-    }
-}
-
 // A run's cells go into the part of the cells that starts with them.
 fn put_words(part: &mut [u32], words: &[u8], count: usize)
     requires { ⌜ 4 * count ≤ length (now words) ⌝ }
@@ -146,7 +135,6 @@ fn put_run(cells: &mut [u32], payload: &[u8])
 
 // A register's value.
 fn put_value(regs: &mut [u32; 256], payload: &[u8])
-    requires { ⌜ length (now payload) ≡ 5 ⌝ }
     ensures { λ r. ⌜ now (regs .exit) ≡ set (now (regs .entry)) (registerOf (now (payload .entry))) (registerValue (now (payload .entry))) ⌝ }
 {
     let i = number(payload, 0, 1) as usize;

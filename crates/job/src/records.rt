@@ -1,10 +1,10 @@
 // The rules of a record: which kinds are known, their lengths, their order, and the space that a base has.
 ghost use mathlib.Core.Path.{_≡_};
 ghost use mathlib.Core.Bool.{true};
-ghost use Prim.Native.Nat.{_≤_, _+_, _<_};
+ghost use Prim.Native.Nat.{_+_, _<_};
 ghost use lib.ListN.{length};
 ghost use Rattle.job.specs.Job.{kindBy, knownOf, fitsOf, endsOf, rankOf, pastOf, inOrder, risesOf, baseOf, countOf, withinOf, settingsFit, settingsIn};
-use crate::little::number;
+use lent::number;
 use machine::Settings;
 use machine::good_settings;
 
@@ -101,13 +101,12 @@ fn rank(kind: Kind) -> u32
 
 // Bases and registers rise, and the settings come once.
 fn rises(past: Past, kind: Kind, payload: &[u8]) -> bool
-    requires { ⌜ fitsOf kind (length (now payload)) ≡ true ⌝ }
     ensures { λ r. ⌜ r ≡ risesOf past kind (now (payload .entry)) ⌝ }
 {
     match kind {
         Kind::Run => past.end <= number(payload, 0, 2),
         Kind::Register => past.next <= number(payload, 0, 1),
-        Kind::Setup => past.rank < 3,
+        Kind::Setup => past.rank < rank(kind),
         Kind::End => true,
         Kind::Other => true,
     }
@@ -115,7 +114,6 @@ fn rises(past: Past, kind: Kind, payload: &[u8]) -> bool
 
 // Whether a record keeps the order.
 pub(crate) fn in_order(past: Past, kind: Kind, payload: &[u8]) -> bool
-    requires { ⌜ fitsOf kind (length (now payload)) ≡ true ⌝ }
     ensures { λ r. ⌜ r ≡ inOrder past kind (now (payload .entry)) ⌝ }
 {
     if past.rank <= rank(kind) {
@@ -148,7 +146,6 @@ pub(crate) fn within(m: usize, kind: Kind, payload: &[u8]) -> bool
 
 // The settings that a payload holds.
 pub(crate) fn settings_in(payload: &[u8]) -> Settings
-    requires { ⌜ 5 ≤ length (now payload) ⌝ }
     ensures { λ r. ⌜ r ≡ settingsIn (now (payload .entry)) ⌝ }
 {
     Settings {
@@ -160,7 +157,6 @@ pub(crate) fn settings_in(payload: &[u8]) -> Settings
 
 // Whether a record's settings are in range.
 pub(crate) fn settled(kind: Kind, payload: &[u8]) -> bool
-    requires { ⌜ fitsOf kind (length (now payload)) ≡ true ⌝ }
     ensures { λ r. ⌜ r ≡ settingsFit kind (now (payload .entry)) ⌝ }
 {
     match kind {
@@ -177,19 +173,20 @@ pub(crate) fn passed(past: Past, kind: Kind, payload: &[u8]) -> Past
     requires { ⌜ fitsOf kind (length (now payload)) ≡ true ⌝ }
     ensures { λ r. ⌜ r ≡ pastOf past kind (now (payload .entry)) ⌝ }
 {
+    let place = rank(kind);
     match kind {
         Kind::Run => Past {
-            rank: 1,
+            rank: place,
             end: run_end(payload),
             next: past.next,
         },
         Kind::Register => Past {
-            rank: 2,
+            rank: place,
             end: past.end,
             next: number(payload, 0, 1) + 1,
         },
         Kind::Setup => Past {
-            rank: 3,
+            rank: place,
             end: past.end,
             next: past.next,
         },

@@ -14,7 +14,8 @@ use Rattle.machine.specs.State.{freshMachine, entriesIn, capacityOf}
 use Rattle.journal.specs.Journal.{regsAfter, cellsAfter, settingsAfter, entryOf}
 use Rattle.step.specs.Step.{refusalOf, effectIn, courseOf, stepOf}
 use Rattle.runner.specs.Calls.{runFrom, checkOf}
-use Rattle.job.specs.Job.{littleOf, numberAt, kindBy, wordsOf, inOrder, fateOf, refusalFrom, contentFrom, refusalIn}
+use Rattle.lent.specs.Little.{littleOf, numberAt}
+use Rattle.job.specs.Job.{kindBy, wordsOf, inOrder, fateOf, refusalFrom, contentFrom, refusalIn}
 use Rattle.outcome.specs.Outcome.{outcomeOf}
 use Rattle.outcome.specs.Told.{registersText, ranText, textOf}
 use Rattle.outcome.specs.Printed.{printedJob}

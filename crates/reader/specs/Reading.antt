@@ -67,7 +67,7 @@ refused = record { number = 30; cell = 0 }
 abbrev pub finished : Reply → List ℕ → Reply
 finished said s = cond (eqb (said .number) 0 && ended s) said refused
 
--- each field's answer is taken apart, or the text is refused
+-- what was taken off goes on into the next field; where it is missing the text is refused
 abbrev pub onTaken : Taken → (ℕ → List ℕ → Reply) → Reply
 onTaken (taken v s) f = f v s
 onTaken missing f = refused

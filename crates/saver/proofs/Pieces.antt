@@ -1,6 +1,6 @@
 -- Pieces stored one after the other, and the pieces of a saved job: where each begins, and how long they are at most.
 -- Assumes nothing.
-use Prim.Native.Nat.{ℕ, zero, suc, _+_, _-_, _*_, _/_, _%_, _^_, _≤_, _<_}
+use Prim.Native.Nat.{ℕ, suc, _+_, _-_, _*_, _≤_, _<_}
 use mathlib.Core.Path.{refl, sym, ap, _≡_, _∙_}
 use mathlib.Core.Bool.{Bool, true, false, cond}
 use mathlib.Core.List.{List, [], append-assoc, append-nil, _∷_, _++_}
@@ -15,24 +15,10 @@ use Rattle.machine.specs.declared.Settings.{Settings}
 use Rattle.machine.proofs.Tests.{picked}
 use Rattle.text.proofs.Adds.{sets-append}
 use Rattle.machine.specs.State.{mostCells}
-use Rattle.job.specs.Job.{bytesOf}
+use Rattle.lent.specs.Little.{bytesOf}
 use Rattle.saver.specs.Saving.{recordOf, wordBytes, runRecord, runsFrom, valueRecord, valuesFrom, freshOf, setupOf}
 use Rattle.saver.specs.Inner.{Stored, Fits, spanOf}
-use Rattle.job.proofs.Numbers.{length-bytes}
-
--- the four bytes of a number, and the first of them
-pub four-bytes : (v : ℕ) → v < 2 ^ 32 → v % 256 ∷ v / 256 % 256 ∷ v / 65536 % 256 ∷ v / 16777216 ∷ [] ≡ bytesOf 4 v
-unfolding bytesOf
-four-bytes v h =
-    let third : v / 65536 ≡ v / 256 / 256 = omega arith in
-    let last : v / 16777216 ≡ v / 256 / 256 / 256 % 256 = omega arith in
-    rw (third, last)
-
-pub first-bytes : (width k v : ℕ) → width ≤ k → take width (bytesOf k v) ≡ bytesOf width v
-unfolding bytesOf
-first-bytes zero k v h = refl
-first-bytes (suc width) zero v h = absurd (omega arith)
-first-bytes (suc width) (suc k) v h = ap (λ (l : List ℕ). v % 256 ∷ l) (first-bytes width k (v / 256) (omega arith))
+use Rattle.lent.proofs.Numbers.{length-bytes}
 
 -- a piece stored where another ends
 pub stored-then : (p q : List ℕ) {l m n : List ℕ} {at k r : ℕ} → Stored l at p m k → Stored m k q n r → Stored l at (p ++ q) n r

@@ -8,7 +8,7 @@ use lib.Seq.{sets}
 use Rattle.machine.specs.declared.Settings.{Settings}
 use Rattle.machine.specs.declared.Machine.{Machine}
 use Rattle.machine.specs.State.{badCells, badSettings}
-use Rattle.job.specs.Job.{bytesOf}
+use Rattle.lent.specs.Little.{bytesOf}
 
 -- a record: its payload's length, its kind, and the payload
 unfoldable pub recordOf : ℕ → List ℕ → List ℕ

@@ -5,7 +5,7 @@ ghost use mathlib.Core.List.{[], _++_};
 ghost use Prim.Native.Nat.{_+_, _^_, _≤_, _<_};
 ghost use lib.ListN.{length, drop};
 ghost use Rattle.machine.specs.State.{mostCells};
-ghost use Rattle.job.specs.Job.{bytesOf};
+ghost use Rattle.lent.specs.Little.{bytesOf};
 ghost use Rattle.saver.specs.Saving.{wordBytes, runRecord, runsFrom, valueRecord, valuesFrom, freshOf, setupOf, savedOf};
 ghost use Rattle.saver.specs.Inner.{Stored, Fits, spanOf};
 use crate::little::put;

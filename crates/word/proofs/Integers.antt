@@ -105,7 +105,7 @@ pub shifted : (z : ℤ) (x d : ℕ) → Fits w32 x → z ≡ toZ w32 x → ofZ w
 shifted z x d fits e =
     rw (reading z x fits e) (bits-back (shrZ (toZ w32 x) d) (sfits-le (mag-shr (toZ w32 x) d) (toZ-fits w32 x fits)))
 
--- 32 copies of the sign bit
+-- the sign in each of the 32 bits
 pub sign-copies : (x : ℕ) → x < 2 ^ 32 → ofZ w32 (shrZ (toZ w32 x) (2 ^ 31)) ≡ cond (leb (2 ^ 31) x) 0xFFFFFFFF 0
 sign-copies x fits = copies (leb (2 ^ 31) x) refl
   where

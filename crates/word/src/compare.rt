@@ -6,7 +6,7 @@ ghost use lib.Signed.{ltZ};
 ghost use Rattle.word.specs.Word.{truth, signed};
 use crate::signed::signed_of;
 
-// 1 if either operand is 0, else 0.
+// Whether a 0 is among the operands.
 pub(crate) fn either_zero(m: u32, l: u32) -> u32
     ensures { λ r. ⌜ r ≡ truth (eqb m 0 || eqb l 0) ⌝ }
 {

@@ -1,10 +1,8 @@
 -- `job::reading::apply` meets its contract: in each arm the kind is known.
 -- Assumes nothing.
-use native.Mathlib.Omega.{arith}
-use lib.ListN.{length}
 use borrow.Author.Needs.{needs}
 use Rattle.job.specs.declared.records.Kind.the-variants.{Run}
-use Rattle.job.proofs.Rules.{as-sound, register-size, setup-size}
+use Rattle.job.proofs.Rules.{as-sound}
 use Rattle.job.proofs.reading.apply.Statement.{statement}
 use Rattle.job.proofs.reading.apply.Tie as tie
 
@@ -18,13 +16,13 @@ enum-told-2 : tie.Need-enum-told-2
 enum-told-2 c = search needs
 
 put-value-requires : tie.Need-put-value-requires
-put-value-requires c κs = register-size _ _ (c .before .enum-told2 .given .1) (c .before .before .before .before .before .pre .fits)
+put-value-requires c κs = search needs
 
 enum-told-3 : tie.Need-enum-told-3
 enum-told-3 c = search needs
 
 settings-in-requires : tie.Need-settings-in-requires
-settings-in-requires c κs = let s = setup-size _ (length (c .before .before .before .before .args .payload .now)) (c .enum-told3 .given .1) (c .before .before .before .before .pre .fits) in omega arith
+settings-in-requires c κs = search needs
 
 enum-told-4 : tie.Need-enum-told-4
 enum-told-4 c = search needs

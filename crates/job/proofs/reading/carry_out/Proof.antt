@@ -30,7 +30,7 @@ part-left-end : tie.Need-part-left-end Inv-loop μ-loop
 part-left-end c = search needs
 
 number-requires : tie.Need-number-requires Inv-loop μ-loop
-number-requires c κs = let t = there _ _ _ _ _ (c .before .loop .inv) in rw (rest-length (c .before .loop .at) (c .before .before .before .before .args .job .now)) (omega arith, omega arith)
+number-requires c κs = search needs
 
 kind-by-requires : tie.Need-kind-by-requires Inv-loop μ-loop
 kind-by-requires c κs = search needs
@@ -45,7 +45,7 @@ returns : tie.Need-returns Inv-loop μ-loop
 returns c = over _ _ _ _ _ (c .before .before .before .before .before .loop .inv) (ends-there _ _ _ _ (kind-there (c .before .before .before .before .before .before .before .before .args .job .now) (c .before .before .before .before .before .loop .at) (c .before .before .kind-by .result) (c .before .before .before .number .result) (c .before .before .kind-by .ensures) (c .before .before .before .number .ensures)) (c .before .ends .ensures) (c .if1 .taken))
 
 number-requires-2 : tie.Need-number-requires-2 Inv-loop μ-loop
-number-requires-2 c κs = let t = there _ _ _ _ _ (c .before .before .before .before .before .loop .inv) in rw (rest-length (c .before .before .before .before .before .loop .at) (c .before .before .before .before .before .before .before .before .args .job .now)) (omega arith, omega arith)
+number-requires-2 c κs = search needs
 
 cast-end : tie.Need-cast-end Inv-loop μ-loop
 cast-end c = search needs

@@ -16,7 +16,7 @@ unfolding fateOf
 returns c = rw (lt-ltb _ _ (c .if1 .taken))
 
 number-requires : tie.Need-number-requires
-number-requires c κs = (omega arith, omega arith)
+number-requires c κs = search needs
 
 kind-by-requires : tie.Need-kind-by-requires
 kind-by-requires c κs = search needs
@@ -29,7 +29,7 @@ unfolding fateOf
 returns-2 c = rw (le-ltb _ _ (c .before .before .before .before .if1 .left), ← c .before .before .before .number .ensures, ← c .before .before .kind-by .ensures, ← c .before .known .ensures, c .if2 .taken)
 
 number-requires-2 : tie.Need-number-requires-2
-number-requires-2 c κs = (omega arith, omega arith)
+number-requires-2 c κs = search needs
 
 fits-requires : tie.Need-fits-requires
 fits-requires c κs = search needs

@@ -8,7 +8,7 @@ use Rattle.job.proofs.reading.look_in.Statement.{statement}
 use Rattle.job.proofs.reading.look_in.Tie as tie
 
 in-order-requires : tie.Need-in-order-requires
-in-order-requires c κs = c .before .pre
+in-order-requires c κs = search needs
 
 returns : tie.Need-returns
 returns c = rw (← c .before .in-order .ensures, c .if1 .taken)
@@ -20,7 +20,7 @@ returns-2 : tie.Need-returns-2
 returns-2 c = rw (← c .before .before .before .in-order .ensures, c .before .before .if1 .left, ← c .before .within .ensures, c .if2 .taken)
 
 settled-requires : tie.Need-settled-requires
-settled-requires c κs = c .before .before .before .before .before .pre
+settled-requires c κs = search needs
 
 returns-3 : tie.Need-returns-3
 returns-3 c = rw (← c .before .before .before .before .before .in-order .ensures, c .before .before .before .before .if1 .left, ← c .before .before .before .within .ensures, c .before .before .if2 .left, ← c .before .settled .ensures, c .if3 .taken)

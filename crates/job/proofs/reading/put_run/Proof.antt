@@ -15,7 +15,7 @@ use Rattle.job.proofs.reading.put_run.Statement.{statement}
 use Rattle.job.proofs.reading.put_run.Tie as tie
 
 number-requires : tie.Need-number-requires
-number-requires c κs = let s = run-size Run (length (c .before .before .args .payload .now)) refl (c .before .before .pre .fits) in (omega arith, omega arith)
+number-requires c κs = search needs
 
 cast-base : tie.Need-cast-base
 cast-base c = search needs

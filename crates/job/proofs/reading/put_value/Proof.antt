@@ -2,7 +2,7 @@
 -- Assumes nothing.
 use native.Mathlib.Omega.{arith}
 use borrow.Author.Needs.{needs}
-use Rattle.job.proofs.Numbers.{below-1}
+use Rattle.lent.proofs.Numbers.{below-1}
 use Rattle.job.proofs.reading.put_value.Statement.{statement}
 use Rattle.job.proofs.reading.put_value.Tie as tie
 

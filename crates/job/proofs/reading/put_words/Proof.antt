@@ -25,7 +25,7 @@ mul-number : tie.Need-mul-number Inv-loop μ-loop
 mul-number c = search needs
 
 number-requires : tie.Need-number-requires Inv-loop μ-loop
-number-requires c κs = (omega arith, omega arith)
+number-requires c κs = search needs
 
 mul-part : tie.Need-mul-part Inv-loop μ-loop
 mul-part c = search needs

@@ -1,9 +1,5 @@
--- `job::records::rises` meets its contract: in each arm the kind is known, and the payload of its length holds the number that is read.
--- Assumes nothing.
-use native.Mathlib.Omega.{arith}
-use lib.ListN.{length}
+-- `job::records::rises` meets its contract: in each arm the kind is known.
 use borrow.Author.Needs.{needs}
-use Rattle.job.proofs.Rules.{run-size, register-size}
 use Rattle.job.proofs.records.rises.Statement.{statement}
 use Rattle.job.proofs.records.rises.Tie as tie
 
@@ -11,16 +7,19 @@ enum-told : tie.Need-enum-told
 enum-told c = search needs
 
 number-requires : tie.Need-number-requires
-number-requires c κs = let s = run-size _ (length (c .before .before .before .args .payload .now)) (c .enum-told .given .1) (c .before .before .before .pre) in (omega arith, omega arith)
+number-requires c κs = search needs
 
 enum-told-2 : tie.Need-enum-told-2
 enum-told-2 c = search needs
 
 number-requires-2 : tie.Need-number-requires-2
-number-requires-2 c κs = let s = register-size _ (length (c .before .before .before .args .payload .now)) (c .enum-told2 .given .1) (c .before .before .before .pre) in (omega arith, omega arith)
+number-requires-2 c κs = search needs
 
 enum-told-3 : tie.Need-enum-told-3
 enum-told-3 c = search needs
+
+rank-requires : tie.Need-rank-requires
+rank-requires c κs = search needs
 
 enum-told-4 : tie.Need-enum-told-4
 enum-told-4 c = search needs
@@ -35,7 +34,7 @@ returns-2 : tie.Need-returns-2
 returns-2 c = rw (c .before .before .enum-told2 .given .1, c .before .number2 .ensures)
 
 returns-3 : tie.Need-returns-3
-returns-3 c = rw (c .before .enum-told3 .given .1)
+returns-3 c = rw (c .before .rank .ensures, c .before .before .enum-told3 .given .1)
 
 returns-4 : tie.Need-returns-4
 returns-4 c = search needs
@@ -52,6 +51,7 @@ rises-spec =
     enum-told-2
     number-requires-2
     enum-told-3
+    rank-requires
     enum-told-4
     enum-told-5
     returns

@@ -6,12 +6,12 @@ use mathlib.Core.Path.{refl}
 use borrow.Author.Needs.{needs}
 use Rattle.job.specs.declared.records.Kind.the-variants.{Run}
 use Rattle.job.proofs.Rules.{run-size}
-use Rattle.job.proofs.Numbers.{below-2}
+use Rattle.lent.proofs.Numbers.{below-2}
 use Rattle.job.proofs.records.run_end.Statement.{statement}
 use Rattle.job.proofs.records.run_end.Tie as tie
 
 number-requires : tie.Need-number-requires
-number-requires c κs = let s = run-size Run (length (c .before .args .payload .now)) refl (c .before .pre) in (omega arith, omega arith)
+number-requires c κs = search needs
 
 sub-result : tie.Need-sub-result
 sub-result c = let s = run-size Run (length (c .before .before .args .payload .now)) refl (c .before .before .pre) in omega arith

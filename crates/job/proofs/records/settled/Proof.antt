@@ -1,9 +1,6 @@
 -- `job::records::settled` meets its contract: in each arm the kind is known, and settings are tested by their own rule.
 -- Assumes nothing.
-use native.Mathlib.Omega.{arith}
-use lib.ListN.{length}
 use borrow.Author.Needs.{needs}
-use Rattle.job.proofs.Rules.{setup-size}
 use Rattle.job.proofs.records.settled.Statement.{statement}
 use Rattle.job.proofs.records.settled.Tie as tie
 
@@ -17,7 +14,7 @@ enum-told-3 : tie.Need-enum-told-3
 enum-told-3 c = search needs
 
 settings-in-requires : tie.Need-settings-in-requires
-settings-in-requires c κs = let s = setup-size _ (length (c .before .before .before .args .payload .now)) (c .enum-told3 .given .1) (c .before .before .before .pre) in omega arith
+settings-in-requires c κs = search needs
 
 in-range-requires : tie.Need-good-settings-requires
 in-range-requires c κs = search needs

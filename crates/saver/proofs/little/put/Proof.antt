@@ -5,9 +5,8 @@ use Prim.Native.Nat.{ℕ}
 use lib.ListN.{take}
 use lib.Seq.{sets}
 use borrow.Author.Needs.{needs}
-use Rattle.job.specs.Job.{bytesOf}
-use Rattle.job.proofs.Numbers.{length-bytes}
-use Rattle.saver.proofs.Pieces.{first-bytes}
+use Rattle.lent.specs.Little.{bytesOf}
+use Rattle.lent.proofs.Numbers.{length-bytes, first-bytes}
 use Rattle.saver.proofs.little.put.Statement.{statement}
 use Rattle.saver.proofs.little.put.Tie as tie
 

@@ -2,7 +2,7 @@
 -- Assumes nothing.
 use native.Mathlib.Omega.{arith}
 use borrow.Author.Needs.{needs}
-use Rattle.job.proofs.Numbers.{length-bytes}
+use Rattle.lent.proofs.Numbers.{length-bytes}
 use Rattle.saver.proofs.Pieces.{stored-then}
 use Rattle.saver.proofs.writing.put_head.Statement.{statement}
 use Rattle.saver.proofs.writing.put_head.Tie as tie

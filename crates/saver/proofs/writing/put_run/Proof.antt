@@ -4,7 +4,7 @@ use Prim.Native.Nat.{_+_, _*_}
 use native.Mathlib.Omega.{arith}
 use lib.ListN.{length}
 use borrow.Author.Needs.{needs}
-use Rattle.job.proofs.Numbers.{length-bytes}
+use Rattle.lent.proofs.Numbers.{length-bytes}
 use Rattle.saver.proofs.Pieces.{stored-then, stored-none, stored-record, head-length, run-none, run-record, run-payload, run-length, length-word-bytes}
 use Rattle.saver.proofs.writing.put_run.Statement.{statement}
 use Rattle.saver.proofs.writing.put_run.Tie as tie

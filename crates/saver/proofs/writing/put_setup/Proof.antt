@@ -3,7 +3,7 @@
 use mathlib.Core.Path.{sym, _∙_}
 use native.Mathlib.Omega.{arith}
 use borrow.Author.Needs.{needs}
-use Rattle.job.proofs.Numbers.{length-bytes}
+use Rattle.lent.proofs.Numbers.{length-bytes}
 use Rattle.saver.proofs.Pieces.{stored-then, stored-none, stored-record, head-length, setup-none, setup-record, setup-payload}
 use Rattle.saver.proofs.writing.put_setup.Statement.{statement}
 use Rattle.saver.proofs.writing.put_setup.Tie as tie

@@ -2,7 +2,7 @@
 -- Assumes nothing.
 use native.Mathlib.Omega.{arith}
 use borrow.Author.Needs.{needs}
-use Rattle.job.proofs.Numbers.{length-bytes}
+use Rattle.lent.proofs.Numbers.{length-bytes}
 use Rattle.saver.proofs.Pieces.{stored-then, stored-none, stored-record, head-length, value-none, value-record, value-payload, value-length}
 use Rattle.saver.proofs.writing.put_value.Statement.{statement}
 use Rattle.saver.proofs.writing.put_value.Tie as tie

@@ -5,7 +5,7 @@ use native.Mathlib.Omega.{arith}
 use lib.ListN.{length, getD, drop}
 use borrow.Author.Needs.{needs}
 use Rattle.saver.specs.Saving.{wordBytes}
-use Rattle.job.proofs.Numbers.{length-bytes}
+use Rattle.lent.proofs.Numbers.{length-bytes}
 use Rattle.saver.proofs.Pieces.{Left, whole-left, left-turn, left-fits, left-over, left-length, word-turn, word-over}
 use Rattle.saver.proofs.writing.put_words.Statement.{statement}
 use Rattle.saver.proofs.writing.put_words.Tie as tie

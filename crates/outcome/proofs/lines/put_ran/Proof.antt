@@ -1,12 +1,12 @@
--- `outcome::put_ran` meets its contract: the line of the run, and then those of the registers.
+-- `outcome::lines::put_ran` meets its contract: the line of the run, and then those of the registers.
 use lib.ListN.{take}
 use Rattle.machine.specs.State.{pcOf}
 use Rattle.text.proofs.Adds.{added-then}
 use Rattle.outcome.specs.Told.{exitText, registersText, ranText}
 use Rattle.outcome.proofs.Lengths.{both-short}
 use borrow.Author.Needs.{needs}
-use Rattle.outcome.proofs.put_ran.Statement.{statement}
-use Rattle.outcome.proofs.put_ran.Tie as tie
+use Rattle.outcome.proofs.lines.put_ran.Statement.{statement}
+use Rattle.outcome.proofs.lines.put_ran.Tie as tie
 
 number-requires : tie.Need-number-requires
 number-requires c κs = search needs

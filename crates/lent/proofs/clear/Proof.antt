@@ -1,4 +1,4 @@
--- `job::reading::clear` meets its contract: each turn makes one cell more 0.
+-- `lent::clear` meets its contract: each turn makes one word more 0.
 -- Assumes nothing.
 use mathlib.Core.List.{_++_}
 use lib.ListN.{drop, length, replicate, length-set}
@@ -7,24 +7,24 @@ use Prim.Native.Nat.{_≤_, _-_}
 use borrow.Author.Fill.{fill-none, fill-more}
 use borrow.Author.Needs.{needs}
 use native.Mathlib.Omega.{arith}
-use Rattle.job.proofs.Rules.{fill-over}
-use Rattle.job.proofs.reading.clear.Statement.{statement}
-use Rattle.job.proofs.reading.clear.Tie as tie
+use Rattle.lent.proofs.Fill.{fill-over}
+use Rattle.lent.proofs.clear.Statement.{statement}
+use Rattle.lent.proofs.clear.Tie as tie
 
 abbrev Inv-loop : tie.InvT-loop
-Inv-loop cells₀ i₀ cells i = (i ≤ length cells₀) × (cells ≡ replicate i 0 ++ drop i cells₀) × (length cells ≡ length cells₀)
+Inv-loop words₀ i₀ words i = (i ≤ length words₀) × (words ≡ replicate i 0 ++ drop i words₀) × (length words ≡ length words₀)
 
 abbrev μ-loop : tie.MeasureT-loop
-μ-loop cells₀ i₀ cells i = length cells₀ - i
+μ-loop words₀ i₀ words i = length words₀ - i
 
 loop-holds : tie.Need-loop-holds Inv-loop μ-loop
-loop-holds c = (search needs, fill-none (c .args .cells .now) 0, refl)
+loop-holds c = (search needs, fill-none (c .args .words .now) 0, refl)
 
-mul-cells : tie.Need-mul-cells Inv-loop μ-loop
-mul-cells c = search needs
+mul-words : tie.Need-mul-words Inv-loop μ-loop
+mul-words c = search needs
 
-slice-write-cells : tie.Need-slice-write-cells Inv-loop μ-loop
-slice-write-cells c = omega arith
+slice-write-words : tie.Need-slice-write-words Inv-loop μ-loop
+slice-write-words c = omega arith
 
 add-i : tie.Need-add-i Inv-loop μ-loop
 add-i c = omega arith
@@ -33,7 +33,7 @@ loop-less : tie.Need-loop-less Inv-loop μ-loop
 loop-less c = omega arith
 
 loop-again : tie.Need-loop-again Inv-loop μ-loop
-loop-again c = (omega arith, rw (c .before .loop .inv .1) (fill-more (c .before .loop .i) 0 (c .before .before .args .cells .now) (omega arith)), length-set (c .before .loop .cells) (c .before .loop .i) 0 ∙ c .before .loop .inv .2)
+loop-again c = (omega arith, rw (c .before .loop .inv .1) (fill-more (c .before .loop .i) 0 (c .before .before .args .words .now) (omega arith)), length-set (c .before .loop .words) (c .before .loop .i) 0 ∙ c .before .loop .inv .2)
 
 same-length : tie.Need-same-length Inv-loop μ-loop
 same-length c = c .before .loop .inv .2
@@ -48,8 +48,8 @@ clear-spec =
     Inv-loop
     μ-loop
     loop-holds
-    mul-cells
-    slice-write-cells
+    mul-words
+    slice-write-words
     add-i
     loop-less
     loop-again

@@ -1,14 +1,16 @@
 -- Little-endian numbers over the width: one byte more, their bound, and that they are read as they were written.
 -- Assumes nothing.
-use Prim.Native.Nat.{ℕ, zero, suc, _+_, _-_, _*_, _/_, _%_, _^_, _≤_, _<_}
-use mathlib.Core.Path.{_≡_, refl, ap, _∙_}
+use Prim.Native.Nat.{ℕ, zero, suc, _+_, _-_, _*_, _/_, _%_, _^_, _≤_, _<_, min}
+use mathlib.Core.Path.{_≡_, refl, sym, ap, _∙_}
+use mathlib.Core.Bool.{Bool, true, false}
 use mathlib.Core.List.{List, [], _∷_, _++_}
 use native.Mathlib.Nat.{add-zero, sub-zero}
 use native.Mathlib.Omega.{arith}
-use lib.ListN.{length, getD, take, drop}
-use lib.Seq.{drop-cons}
-use Rattle.job.specs.Job.{littleOf, bytesOf, numberAt}
-use Rattle.job.specs.Loads.{Bytes}
+use lib.Dec.{ltb}
+use lib.ListN.{length, getD, take, drop, length-drop, drop-of-length-le}
+use lib.Seq.{drop-cons, take-all}
+use borrow.Author.Tests.{ltb-true, ltb-false}
+use Rattle.lent.specs.Little.{Bytes, littleOf, bytesOf, numberAt}
 
 -- the parts of a list of bytes
 pub bytes-drop : (n : ℕ) (l : List ℕ) → Bytes l → Bytes (drop n l)
@@ -94,3 +96,45 @@ little-bytes zero v h = omega arith
 little-bytes (suc w) v h =
     let r : littleOf (bytesOf w (v / 256)) ≡ v / 256 = little-bytes w (v / 256) (omega arith) in
     rw r (omega arith)
+
+-- the four bytes of a number, and the first of them
+pub four-bytes : (v : ℕ) → v < 2 ^ 32 → v % 256 ∷ v / 256 % 256 ∷ v / 65536 % 256 ∷ v / 16777216 ∷ [] ≡ bytesOf 4 v
+unfolding bytesOf
+four-bytes v h =
+    let third : v / 65536 ≡ v / 256 / 256 = omega arith in
+    let last : v / 16777216 ≡ v / 256 / 256 / 256 % 256 = omega arith in
+    rw (third, last)
+
+pub first-bytes : (width k v : ℕ) → width ≤ k → take width (bytesOf k v) ≡ bytesOf width v
+unfolding bytesOf
+first-bytes zero k v h = refl
+first-bytes (suc width) zero v h = absurd (omega arith)
+first-bytes (suc width) (suc k) v h = ap (λ (l : List ℕ). v % 256 ∷ l) (first-bytes width k (v / 256) (omega arith))
+
+-- where a place or a width goes past the end, there is nothing more to read
+cut-drop : (l : List ℕ) (at n : ℕ) → n ≡ min at (length l) → drop n l ≡ drop at l
+cut-drop l at n e = by (ltb at (length l)) refl
+  where
+    by : (t : Bool) → ltb at (length l) ≡ t → drop n l ≡ drop at l
+    by true h = let s : n ≡ at = omega (arith, ltb-true at (length l) h) in rw s
+    by false h =
+        let q : length l ≤ at = ltb-false at (length l) h in
+        let s : length l ≤ n = omega arith in
+        rw (drop-of-length-le l {i = n} s, drop-of-length-le l {i = at} q)
+
+cut-take : (l : List ℕ) (width n : ℕ) → n ≡ min width (length l) → take n l ≡ take width l
+cut-take l width n e = by (ltb width (length l)) refl
+  where
+    by : (t : Bool) → ltb width (length l) ≡ t → take n l ≡ take width l
+    by true h = let s : n ≡ width = omega (arith, ltb-true width (length l) h) in rw s
+    by false h =
+        let q : length l ≤ width = ltb-false width (length l) h in
+        let s : length l ≤ n = omega arith in
+        rw (take-all n l s, take-all width l q)
+
+pub number-cut : (l : List ℕ) (at width start count : ℕ) → start ≡ min at (length l) → count ≡ min width (length l - start) → numberAt start count l ≡ numberAt at width l
+unfolding numberAt
+number-cut l at width start count p q =
+    let d : drop start l ≡ drop at l = cut-drop l at start p in
+    let n : length (drop at l) ≡ length l - start = ap length (sym d) ∙ length-drop start l in
+    rw (d, cut-take (drop at l) width count (rw n q))

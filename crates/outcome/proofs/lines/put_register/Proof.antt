@@ -1,12 +1,12 @@
--- `outcome::put_register` meets its contract: a register that is 0 has no line, and the pieces are that of one that is not.
+-- `outcome::lines::put_register` meets its contract: a register that is 0 has no line, and the pieces are that of one that is not.
 use Rattle.outcome.proofs.Lengths.{register-short}
 use mathlib.Core.Path.{refl}
 use native.Mathlib.Omega.{arith}
 use Rattle.text.proofs.Adds.{added-then}
 use Rattle.outcome.proofs.Registers.{register-none, register-some}
 use borrow.Author.Needs.{needs}
-use Rattle.outcome.proofs.put_register.Statement.{statement}
-use Rattle.outcome.proofs.put_register.Tie as tie
+use Rattle.outcome.proofs.lines.put_register.Statement.{statement}
+use Rattle.outcome.proofs.lines.put_register.Tie as tie
 
 returns : tie.Need-returns
 returns c = let s = c .before .before in (

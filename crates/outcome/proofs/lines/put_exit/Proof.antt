@@ -1,9 +1,9 @@
--- `outcome::put_exit` meets its contract: the pieces, put one after the other, are the line.
+-- `outcome::lines::put_exit` meets its contract: the pieces, put one after the other, are the line.
 use Rattle.text.proofs.Adds.{added-then}
 use Rattle.outcome.proofs.Lengths.{exit-short}
 use borrow.Author.Needs.{needs}
-use Rattle.outcome.proofs.put_exit.Statement.{statement}
-use Rattle.outcome.proofs.put_exit.Tie as tie
+use Rattle.outcome.proofs.lines.put_exit.Statement.{statement}
+use Rattle.outcome.proofs.lines.put_exit.Tie as tie
 
 slice-aggregate-put-number : tie.Need-slice-aggregate-put-number
 slice-aggregate-put-number c = search needs

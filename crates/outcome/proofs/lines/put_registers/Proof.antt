@@ -1,4 +1,4 @@
--- `outcome::put_registers` meets its contract: after i turns the lines of the first i registers are put, of at most 16 bytes each.
+-- `outcome::lines::put_registers` meets its contract: after i turns the lines of the first i registers are put, of at most 16 bytes each.
 use mathlib.Core.Path.{_≡_, refl, subst, _∙_}
 use Prim.Native.Nat.{ℕ, _≤_, _-_, _*_}
 use native.Mathlib.Omega.{arith}
@@ -8,8 +8,8 @@ use Rattle.text.specs.Text.{Added}
 use Rattle.text.proofs.Adds.{added-then}
 use Rattle.outcome.specs.Told.{registersText}
 use Rattle.outcome.proofs.Registers.{registers-more}
-use Rattle.outcome.proofs.put_registers.Statement.{statement}
-use Rattle.outcome.proofs.put_registers.Tie as tie
+use Rattle.outcome.proofs.lines.put_registers.Statement.{statement}
+use Rattle.outcome.proofs.lines.put_registers.Tie as tie
 
 abbrev Inv-loop : tie.InvT-loop
 Inv-loop text₀ at regs end₀ i₀ text end i = (i ≤ 255) × (end ≤ length text) × Added text₀ at (registersText 0 (take i regs)) text end × (length (registersText 0 (take i regs)) ≤ 16 * i) × (length text ≡ length text₀)

@@ -1,8 +1,8 @@
--- `saver::little::bytes` meets its contract: dividing by 256 again and again is dividing by its powers.
+-- `lent::bytes` meets its contract: dividing by 256 again and again is dividing by its powers.
 use borrow.Author.Needs.{needs}
-use Rattle.saver.proofs.Pieces.{four-bytes}
-use Rattle.saver.proofs.little.bytes.Statement.{statement}
-use Rattle.saver.proofs.little.bytes.Tie as tie
+use Rattle.lent.proofs.Numbers.{four-bytes}
+use Rattle.lent.proofs.bytes.Statement.{statement}
+use Rattle.lent.proofs.bytes.Tie as tie
 
 cast-t3 : tie.Need-cast-t3
 cast-t3 c = search needs

@@ -1,13 +1,13 @@
--- `job::little::number` meets its contract: each turn takes one byte more, from the last to the first.
+-- `lent::whole` meets its contract: each turn takes one byte more, from the last to the first.
 -- Assumes nothing.
 use borrow.Author.Needs.{needs}
 use native.Mathlib.Omega.{arith}
 use Prim.Native.Nat.{_+_, _-_, _≤_}
 use mathlib.Core.Path.{_≡_}
-use Rattle.job.proofs.Numbers.{number-none, number-over, number-turn, below-4}
-use Rattle.job.specs.Job.{numberAt}
-use Rattle.job.proofs.little.number.Statement.{statement}
-use Rattle.job.proofs.little.number.Tie as tie
+use Rattle.lent.proofs.Numbers.{number-none, number-over, number-turn, below-4}
+use Rattle.lent.specs.Little.{numberAt}
+use Rattle.lent.proofs.whole.Statement.{statement}
+use Rattle.lent.proofs.whole.Tie as tie
 
 abbrev Inv-loop : tie.InvT-loop
 Inv-loop bytes at width v₀ i₀ v i = (i ≤ width) × (v ≡ numberAt (at + i) (width - i) bytes)
@@ -49,8 +49,8 @@ loop-again c = (omega arith, number-turn _ _ _ _ _ (c .before .loop-test .taken)
 returns : tie.Need-returns Inv-loop μ-loop
 returns c = number-over _ _ _ _ _ (c .before .loop .inv .1) (c .loop-test .left)
 
-pub number-spec : {M : Type 1} → statement M
-number-spec =
+pub whole-spec : {M : Type 1} → statement M
+whole-spec =
     tie.close
     (tie.spec
     Inv-loop
