@@ -1,7 +1,6 @@
 // What a step costs is measured with this program: `bench ROUNDS [CELLS [BACK]] < JOB`. It loads the job into 16,384 cells or as many as
 // asked, goes as many rounds as asked, each a run forward of budget 65,536 and 65,536 steps back or as many as asked, and writes one line
 // of what came of it.
-ghost use Rattle.io.specs.Counts.{Counts};
 
 mod rounds;
 
@@ -34,13 +33,6 @@ fn argument(i: usize, otherwise: u32) -> u32 {
         return otherwise;
     }
     number(&word[..n])
-}
-
-// The lesser of a number and the cells that there are.
-fn least(a: usize, cells: &[u32]) -> usize
-    ensures { λ r. ⌜ Counts r (now (cells .entry)) ⌝ }
-{
-    if a < cells.len() { a } else { cells.len() }
 }
 
 // Writes a name and a number.
@@ -80,7 +72,7 @@ fn measure_input(
     number: u64,
 ) {
     let n = io::read_full(STDIN_FILENO, room);
-    let m = least(size, cells);
+    let m = lent::least_words(size, cells);
     measure(&room[..n], &mut cells[..m], journal, times, number);
 }
 

@@ -1,14 +1,30 @@
-// What lent bytes and words are put to, by callers of every storey: the lesser of two lengths, words made 0, and little-endian numbers.
+// What lent bytes and words are put to, by callers of every storey: how many there are of a number asked for, words made 0, and
+// little-endian numbers.
 ghost use mathlib.Core.Path.{_≡_};
 ghost use Prim.Native.Nat.{_+_, _≤_, min};
 ghost use lib.ListN.{length, replicate};
+ghost use Rattle.lent.specs.Lesser.{Lesser};
 ghost use Rattle.lent.specs.Little.{bytesOf, numberAt};
 
 // The lesser of two lengths.
-pub fn least(a: usize, b: usize) -> usize
+fn least(a: usize, b: usize) -> usize
     ensures { λ r. ⌜ r ≡ min a b ⌝ }
 {
     if a < b { a } else { b }
+}
+
+// As many words as asked for, or as there are.
+pub fn least_words(a: usize, words: &[u32]) -> usize
+    ensures { λ r. ⌜ Lesser a (now (words .entry)) r ⌝ }
+{
+    least(a, words.len())
+}
+
+// The same of bytes.
+pub fn least_bytes(a: usize, bytes: &[u8]) -> usize
+    ensures { λ r. ⌜ Lesser a (now (bytes .entry)) r ⌝ }
+{
+    least(a, bytes.len())
 }
 
 // Makes all words 0.

@@ -6,11 +6,11 @@ use crate::machines::set_words;
 use crate::out::say;
 use crate::out::tell;
 use crate::out::tell_line;
-use crate::parts::least;
 use crate::payload::byte_at;
 use crate::payload::half_at;
 use crate::payload::long_at;
 use crate::payload::word_at;
+use lent::least_words;
 use machine::Machine;
 use machine::Stop;
 use runner::Ran;
@@ -77,8 +77,8 @@ fn put_on(payload: &[u8], cells: &mut [u32], journal: &mut [u32]) {
 
 // The same on as many cells and journal words as the payload says, and no more than there are.
 fn put_within(payload: &[u8], cells: &mut [u32], journal: &mut [u32]) {
-    let m = least(word_at(payload, 0) as usize, cells);
-    let words = least(word_at(payload, 4) as usize, journal);
+    let m = least_words(word_at(payload, 0) as usize, cells);
+    let words = least_words(word_at(payload, 4) as usize, journal);
     put_on(payload, &mut cells[..m], &mut journal[..words]);
 }
 

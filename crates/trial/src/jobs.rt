@@ -7,12 +7,12 @@ use crate::out::end_line;
 use crate::out::say;
 use crate::out::tell;
 use crate::out::tell_line;
-use crate::parts::least;
-use crate::parts::least_bytes;
 use crate::payload::byte_at;
 use crate::payload::half_at;
 use crate::payload::word_at;
 use job::Answer;
+use lent::least_bytes;
+use lent::least_words;
 use machine::Machine;
 use outcome::Sizes;
 use saver::Saved;
@@ -66,7 +66,7 @@ fn save(m: Machine, cells: &[u32], room: &mut [u8]) -> usize {
 // Loads a job that was saved, into as many fresh cells.
 fn load_again(job: &[u8], m: usize) {
     let mut cells = [1431655765u32; 16500];
-    let some = least(m, &cells);
+    let some = least_words(m, &cells);
     load(job, &mut cells[..some]);
 }
 
@@ -84,7 +84,7 @@ fn load_and_save(job: &[u8], cells: &mut [u32], room: &mut [u8]) {
 fn put_loaded(job: &[u8], m: u32, size: u32) {
     let mut cells = [2863311530u32; 16500];
     let mut room = [170u8; 70000];
-    let some = least(m as usize, &cells);
+    let some = least_words(m as usize, &cells);
     let most = least_bytes(size as usize, &room);
     load_and_save(job, &mut cells[..some], &mut room[..most]);
 }
@@ -151,7 +151,7 @@ fn save_given(payload: &[u8], cells: &mut [u32], room: &mut [u8]) {
 pub(crate) fn put_saving(payload: &[u8]) {
     let mut cells = [0u32; 16500];
     let mut room = [170u8; 70000];
-    let m = least(word_at(payload, 0) as usize, &cells);
+    let m = least_words(word_at(payload, 0) as usize, &cells);
     let size = least_bytes(word_at(payload, 4) as usize, &room);
     save_given(payload, &mut cells[..m], &mut room[..size]);
 }

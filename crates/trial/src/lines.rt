@@ -3,13 +3,13 @@ use crate::out::end_line;
 use crate::out::say;
 use crate::out::tell;
 use crate::out::tell_line;
-use crate::parts::least_bytes;
 use crate::payload::byte_at;
 use crate::payload::half_at;
 use crate::payload::word_at;
 use cell::Encoded;
 use cell::Instruction;
 use cell::Operands;
+use lent::least_bytes;
 use line::Printed;
 use reader::ReadLine;
 

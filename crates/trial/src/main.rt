@@ -7,7 +7,6 @@ mod jobs;
 mod lines;
 mod machines;
 mod out;
-mod parts;
 mod payload;
 
 use calls::put_calls;
@@ -15,6 +14,7 @@ use jobs::put_described;
 use jobs::put_job;
 use jobs::put_run;
 use jobs::put_saving;
+use lent::least_bytes;
 use libc::STDIN_FILENO;
 use lines::put_decoded;
 use lines::put_encoded;
@@ -22,7 +22,6 @@ use lines::put_print;
 use lines::put_read;
 use out::tell;
 use out::tell_line;
-use parts::least_bytes;
 use payload::word_at;
 
 // Writes what an answer has after its first line: nothing for a kind that is none.
