@@ -3,7 +3,6 @@ ghost use mathlib.Core.Path.{_≡_};
 ghost use Rattle.saver.specs.Saving.{saveOf};
 ghost use Rattle.saver.specs.Answers.{saveWith};
 
-mod little;
 mod writing;
 
 use machine::Machine;

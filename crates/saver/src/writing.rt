@@ -8,9 +8,19 @@ ghost use Rattle.machine.specs.State.{mostCells};
 ghost use Rattle.lent.specs.Little.{bytesOf};
 ghost use Rattle.saver.specs.Saving.{wordBytes, runRecord, runsFrom, valueRecord, valuesFrom, freshOf, setupOf, savedOf};
 ghost use Rattle.saver.specs.Inner.{Stored, Fits, spanOf};
-use crate::little::put;
 use machine::Machine;
 use machine::Settings;
+
+// The bytes of a number, stored from a place on as far as they find room. It answers where they end.
+fn put(room: &mut [u8], at: usize, width: usize, number: u32) -> usize
+    requires { ⌜ at + width < 2 ^ 64 ⌝ }
+    requires { ⌜ width ≤ 4 ⌝ }
+    ensures { λ r. ⌜ Stored (now (room .entry)) at (bytesOf width number) (now (room .exit)) r ⌝ }
+{
+    let all = lent::bytes(number);
+    text::put(room, at, &all[..width]);
+    at + width
+}
 
 // A record's head: the payload's length, and the kind.
 fn put_head(room: &mut [u8], at: usize, size: u32, kind: u32) -> usize

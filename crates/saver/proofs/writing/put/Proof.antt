@@ -1,4 +1,4 @@
--- `saver::little::put` meets its contract: what is put is the first bytes of the number's four.
+-- `saver::writing::put` meets its contract: what is put is the first bytes of the number's four.
 use mathlib.Core.Path.{_≡_, sym, ap, _∙_}
 use mathlib.Core.List.{List}
 use Prim.Native.Nat.{ℕ}
@@ -7,8 +7,8 @@ use lib.Seq.{sets}
 use borrow.Author.Needs.{needs}
 use Rattle.lent.specs.Little.{bytesOf}
 use Rattle.lent.proofs.Numbers.{length-bytes, first-bytes}
-use Rattle.saver.proofs.little.put.Statement.{statement}
-use Rattle.saver.proofs.little.put.Tie as tie
+use Rattle.saver.proofs.writing.put.Statement.{statement}
+use Rattle.saver.proofs.writing.put.Tie as tie
 
 bytes-requires : tie.Need-bytes-requires
 bytes-requires c κs = search needs
