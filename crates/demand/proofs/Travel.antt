@@ -21,7 +21,7 @@ use Rattle.effect.proofs.Blind as blind
 use Rattle.step.proofs.Steps.{room}
 use Rattle.step.proofs.Keeps.{clear, formed-in, lawful-after}
 use Rattle.machine.proofs.Lawful.{Lawful}
-use Rattle.journal.proofs.Entry.{Room, withJournal, intact-with, undo-with, up-to, last-known, earlier-known, lengths}
+use Rattle.journal.proofs.Undo.{Room, withJournal, intact-with, undo-with, up-to, last-known, earlier-known, lengths}
 use Rattle.runner.proofs.Counts.{done, course-done}
 use Rattle.runner.proofs.Checks.{passes}
 use Rattle.demand.specs.Journey.{Call, Step, Run, Back, Trip, setOut, forward, call, travel, steps, seen, Arrived}

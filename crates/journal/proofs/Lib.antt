@@ -1,5 +1,5 @@
 pub mod Lists
 pub mod Words
 pub mod Damage
-pub mod Entry
+pub mod Undo
 pub mod Named

@@ -3,7 +3,7 @@ ghost use mathlib.Core.Path.{_≡_};
 ghost use Prim.Native.Nat.{_≤_, _<_, _^_};
 ghost use lib.ListN.{length};
 ghost use Rattle.machine.specs.Stops.{saidOf};
-ghost use Rattle.runner.specs.Calls.{outOf};
+ghost use Rattle.runner.specs.Answers.{outOf};
 ghost use Rattle.machine.specs.State.{stateOf};
 ghost use Rattle.text.specs.Text.{Added};
 ghost use Rattle.trials.specs.Calls.{toldOf, stopText, ranText, callBy, callsText, callsAnswer};

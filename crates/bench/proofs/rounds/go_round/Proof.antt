@@ -5,7 +5,7 @@ use borrow.Author.Needs.{needs}
 use mathlib.Core.Path.{_≡_, refl, sym, _∙_}
 use lib.ListN.{length}
 use Rattle.machine.specs.State.{stateOf}
-use Rattle.runner.specs.Calls.{outOf}
+use Rattle.runner.specs.Answers.{outOf}
 use Rattle.bench.specs.Rounds.{noneYet, talliedFrom}
 use Rattle.bench.proofs.Round.{round-step, round-none}
 use Rattle.bench.proofs.rounds.go_round.Statement.{statement}

@@ -5,7 +5,7 @@ use mathlib.Core.List.{[]}
 use native.Mathlib.Omega.{arith}
 use lib.ListN.{length, getD}
 use Rattle.machine.specs.State.{stateOf}
-use Rattle.runner.specs.Calls.{outOf}
+use Rattle.runner.specs.Answers.{outOf}
 use Rattle.trials.specs.Payload.{longAt}
 use Rattle.trials.specs.Calls.{callBy, callsText}
 use Rattle.trials.proofs.Progress.{Going, going-on, gone}
