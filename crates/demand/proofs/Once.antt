@@ -18,6 +18,7 @@ use Rattle.cell.specs.Cell as cell
 use Rattle.cell.specs.Answers.{encodedReply}
 use Rattle.cell.proofs.RoundTrip as cells
 use lib.ListN.{length, replicate}
+use Rattle.lent.specs.Lesser.{Lesser}
 use Rattle.lent.specs.Little.{bytesOf, numberAt}
 use Rattle.text.specs.Text.{Added}
 use Rattle.text.proofs.Adds as text
@@ -38,13 +39,17 @@ use Rattle.runner.specs.declared.Ran.{Ran}
 use Rattle.machine.specs.declared.Stop.{Stop}
 use Rattle.machine.specs.State.{State, freshMachine, stateOf, stateWith, badCells, badSettings, entriesIn, writeIf}
 use Rattle.journal.specs.declared.Returned.{Returned}
-use Rattle.journal.specs.Journal.{packedOf, takenBack, returnedOf}
+use Rattle.journal.specs.Words.{packedOf}
+use Rattle.journal.specs.Journal.{takenBack}
+use Rattle.journal.specs.Answers.{returnedOf}
 use Rattle.journal.proofs.Named as returns
 use Rattle.step.specs.declared.Advanced.{Advanced}
-use Rattle.step.specs.Step.{advancedTo, stepOf}
+use Rattle.step.specs.Step.{stepOf}
+use Rattle.step.specs.Answers.{advancedTo}
 use Rattle.step.proofs.Named as turns
 use Rattle.machine.specs.Stops.{saidOf}
-use Rattle.runner.specs.Calls.{outOf, runOf, backOf}
+use Rattle.runner.specs.Calls.{runOf, backOf}
+use Rattle.runner.specs.Answers.{outOf}
 use Rattle.runner.proofs.Named as runner
 use Rattle.refusal.specs.declared.Refusal.{Refusal}
 use Rattle.job.specs.declared.Answer.{Answer}
@@ -82,8 +87,8 @@ pub encode-once : (opcode : ℕ) (o : Operands) (r t : Encoded) → encodedReply
 encode-once opcode o r t p q = cells.said-once r t (unique p q)
 
 -- lengths, words and bytes that are lent
-pub least-once : (a b r t : ℕ) → r ≡ min a b → t ≡ min a b → r ≡ t
-least-once a b r t = unique
+pub least-once : (a : ℕ) (xs : List ℕ) (r t : ℕ) → Lesser a xs r → Lesser a xs t → r ≡ t
+least-once a xs r t p q = unique (p .0) (q .0)
 
 pub clear-once : (before after after' : List ℕ) → after ≡ replicate (length before) 0 → after' ≡ replicate (length before) 0 → after ≡ after'
 clear-once before after after' = unique
@@ -135,18 +140,18 @@ packed-once s r t = unique
 pub write-once : (used : Bool) (before : List ℕ) (i v : ℕ) (after after' : List ℕ) → after ≡ writeIf used before i v → after' ≡ writeIf used before i v → after ≡ after'
 write-once used before i v after after' = unique
 
--- one step, and going back by an entry, which is promised whatever the settings, the depth and the journal are
+-- one step, and a step back, which is promised whatever the settings are
 pub advance-once : (from : State) (r t : Advanced) (regs regs' cells cells' journal journal' : List ℕ)
     → advancedTo r regs cells journal ≡ stepOf from → advancedTo t regs' cells' journal' ≡ stepOf from
     → (r ≡ t) × (regs ≡ regs') × (cells ≡ cells') × (journal ≡ journal')
 advance-once from = turns.once (stepOf from)
 
-pub take-back-once : (w : List ℕ) (from : State) (r t : Returned) (regs regs' cells cells' : List ℕ)
-    → ((s : Settings) (depth : ℕ) (journal : List ℕ) → returnedOf r s depth regs cells journal ≡ takenBack w (stateWith (from .regs) s depth (from .cells) journal))
-    → ((s : Settings) (depth : ℕ) (journal : List ℕ) → returnedOf t s depth regs' cells' journal ≡ takenBack w (stateWith (from .regs) s depth (from .cells) journal))
+pub take-back-once : (from : State) (r t : Returned) (regs regs' cells cells' : List ℕ)
+    → ((s : Settings) → returnedOf r s (from .depth) regs cells (from .journal) ≡ takenBack (stateWith (from .regs) s (from .depth) (from .cells) (from .journal)))
+    → ((s : Settings) → returnedOf t s (from .depth) regs' cells' (from .journal) ≡ takenBack (stateWith (from .regs) s (from .depth) (from .cells) (from .journal)))
     → (r ≡ t) × (regs ≡ regs') × (cells ≡ cells')
-take-back-once w from r t regs regs' cells cells' p q =
-    returns.once (from .settings) (from .depth) (from .journal) (takenBack w from) r t regs regs' cells cells' (p _ _ _) (q _ _ _)
+take-back-once from r t regs regs' cells cells' p q =
+    returns.once (from .settings) (from .depth) (from .journal) (takenBack from) r t regs regs' cells cells' (p _) (q _)
 
 -- run, and step, which is a run of budget 1; back, whose journal is the one at entry
 module _ (m : Machine) (cells journal : List ℕ) (n : ℕ) (r t : Ran) (left left' kept kept' : List ℕ) where

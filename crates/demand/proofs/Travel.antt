@@ -22,7 +22,7 @@ use Rattle.step.specs.Steps.{steps}
 use Rattle.step.proofs.Steps.{room}
 use Rattle.step.proofs.Keeps.{clear, formed-in, lawful-after}
 use Rattle.machine.specs.Lawful.{Lawful}
-use Rattle.journal.proofs.Entry.{Room, withJournal, intact-with, undo-with, up-to, last-known, earlier-known, lengths}
+use Rattle.journal.proofs.Undo.{Room, withJournal, intact-with, undo-with, up-to, last-known, earlier-known, lengths}
 use Rattle.runner.proofs.Counts.{done, course-done}
 use Rattle.runner.proofs.Checks.{passes}
 use Rattle.demand.specs.Journey.{Call, Step, Run, Back, Trip, setOut, forward, call, travel, seen, Arrived}

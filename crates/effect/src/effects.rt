@@ -12,29 +12,16 @@ use machine::Address;
 use machine::Settings;
 use word::Flag;
 
-// No register, and no cell.
-const NO_WRITE: Write = Write {
-    used: false,
-    number: 0,
-    value: 0,
-};
-
-const NO_STORE: Store = Store {
-    used: false,
-    address: 0,
-    value: 0,
-};
-
 // An illegal LDST: flag 128.
 fn illegal(pc: u32, s: Settings) -> Effect
     ensures { λ r. ⌜ r ≡ onward pc s then illegalOf ⌝ }
 {
     Effect {
         pc,
-        a: NO_WRITE,
-        b: NO_WRITE,
+        a: Write::NONE,
+        b: Write::NONE,
         reversed: false,
-        store: NO_STORE,
+        store: Store::NONE,
         settings: Settings {
             flags: s.flags | Flag::ILLEGAL,
             mask: s.mask,
@@ -50,7 +37,7 @@ fn loaded(p: u32, n: u8, v: u32) -> Write
     ensures { λ r. ⌜ r ≡ loadedOf p n v ⌝ }
 {
     if p == 0 {
-        return NO_WRITE;
+        return Write::NONE;
     }
     Write {
         used: true,
@@ -72,7 +59,7 @@ fn stored(p: u32, v: u32) -> Store
             };
         }
     }
-    NO_STORE
+    Store::NONE
 }
 
 // The settings after a store of v at p: the mask and the mode have addresses.
@@ -125,7 +112,7 @@ pub(crate) fn ldst(n: u8, rn: u32, rm: u32, rl: u32, behind: u32, pc: u32, s: Se
     Effect {
         pc,
         a: loaded(rl, n, behind),
-        b: NO_WRITE,
+        b: Write::NONE,
         reversed: false,
         store: stored(rm, rn),
         settings: resettled(rm, rn, s),
@@ -140,10 +127,10 @@ pub(crate) fn int(rn: u32, imm: u16, pc: u32, s: Settings) -> Effect
 {
     Effect {
         pc,
-        a: NO_WRITE,
-        b: NO_WRITE,
+        a: Write::NONE,
+        b: Write::NONE,
         reversed: false,
-        store: NO_STORE,
+        store: Store::NONE,
         settings: s,
         raised: 0,
         answer: Answer::Interrupt { value: rn, imm },

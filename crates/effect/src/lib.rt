@@ -11,11 +11,29 @@ pub struct Write {
     pub value: u32,
 }
 
+impl Write {
+    // No register.
+    pub const NONE: Write = Write {
+        used: false,
+        number: 0,
+        value: 0,
+    };
+}
+
 // A cell that a step stores to memory, where it is used.
 pub struct Store {
     pub used: bool,
     pub address: u32,
     pub value: u32,
+}
+
+impl Store {
+    // No cell.
+    pub const NONE: Store = Store {
+        used: false,
+        address: 0,
+        value: 0,
+    };
 }
 
 // What an instruction answers: to go on, or INT with its two values.

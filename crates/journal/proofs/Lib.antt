@@ -1,6 +1,6 @@
 pub mod Lists
 pub mod Words
 pub mod Damage
-pub mod Entry
+pub mod Undo
 pub mod Named
 pub mod Undoing

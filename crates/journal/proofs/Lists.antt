@@ -11,7 +11,7 @@ use lib.Seq.{take-take, take-add, getD-set-same, getD-set-other, set-set, set-ge
 use lib.Dec.{eqb}
 use borrow.Author.Tests.{eqb-true, eqb-false}
 use Rattle.machine.specs.State.{writeIf}
-use Rattle.journal.specs.Journal.{ifUsed}
+use Rattle.journal.specs.Words.{ifUsed}
 
 pub length-writeIf : (u : Bool) (l : List ℕ) (i v : ℕ) → length (writeIf u l i v) ≡ length l
 length-writeIf true l i v = length-set l i v

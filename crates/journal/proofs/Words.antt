@@ -1,11 +1,12 @@
 -- Word 7 of an entry: made from three answers, and read back.
 -- Assumes nothing.
-use Prim.Native.Nat.{ℕ, _+_, _*_, _≤_, _<_}
+use Prim.Native.Nat.{ℕ, _+_, _*_, _/_, _%_, _≤_, _<_}
 use mathlib.Core.Path.{_≡_, refl}
 use mathlib.Core.Bool.{Bool, true, false}
+use lib.Dec.{eqb}
 use native.Mathlib.Omega.{arith}
 use mir.Val.{boolByte}
-use Rattle.journal.specs.Journal.{ifUsed, usesA, usesB, usesStore}
+use Rattle.journal.specs.Words.{ifUsed}
 
 abbrev pub wordOf : Bool → Bool → Bool → ℕ
 wordOf a b c = ifUsed a 1 + ifUsed b 2 + ifUsed c 4
@@ -17,9 +18,9 @@ byte-below false = omega arith
 -- the code's sum is the word; the word gives the answers back; it is at most 7
 pub record Word (a b c : Bool) : Type 0 where
   pub bytes : boolByte a + 2 * boolByte b + 4 * boolByte c ≡ wordOf a b c
-  pub a-back : usesA (wordOf a b c) ≡ a
-  pub b-back : usesB (wordOf a b c) ≡ b
-  pub store-back : usesStore (wordOf a b c) ≡ c
+  pub a-back : eqb (wordOf a b c % 2) 1 ≡ a
+  pub b-back : eqb (wordOf a b c / 2 % 2) 1 ≡ b
+  pub store-back : eqb (wordOf a b c / 4 % 2) 1 ≡ c
   pub most : wordOf a b c ≤ 7
 
 pub word : (a b c : Bool) → Word a b c

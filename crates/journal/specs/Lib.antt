@@ -1,2 +1,4 @@
+pub mod Words
 pub mod Journal
 pub mod Undos
+pub mod Answers

@@ -1,21 +1,43 @@
-// The journal: the word of settings in an entry, and going back by an entry.
+// The journal: the entry of a step is made, written and read here, and a step is taken back by it. No other crate knows its words.
 ghost use mathlib.Core.Path.{_≡_};
-ghost use mathlib.Core.List.{List};
-ghost use Prim.Native.Nat.{ℕ, _<_};
-ghost use lib.ListN.{getD};
+ghost use Prim.Native.Nat.{_+_, _*_, _≤_, _<_};
+ghost use lib.ListN.{length, getD};
 ghost use Rattle.machine.specs.declared.Settings.{Settings};
 ghost use Rattle.machine.specs.State.{stateWith};
-ghost use Rattle.journal.specs.Journal.{packedOf, usesA, usesB, usesStore, damagedOf, regsBefore, takenBack, returnedOf};
+ghost use Rattle.journal.specs.Words.{startOf, packedOf, ifUsed, entryWith, usesA, usesB, usesStore, settingsBefore};
+ghost use Rattle.journal.specs.Journal.{entered, lastOf, damagedOf, regsBefore, takenBack};
+ghost use Rattle.journal.specs.Answers.{returnedOf};
+use effect::Store;
+use effect::Write;
 use machine::Settings;
 use machine::write_cell;
 use machine::write_register;
+
+// An entry: its fields are words 0 to 7. Values are from before the step, and unused parts are 0.
+pub struct Entry {
+    pub pc: u32,
+    pub settings: u32,
+    // registers a and b: a + 256 b
+    pub numbers: u32,
+    pub a: u32,
+    pub b: u32,
+    pub address: u32,
+    pub old: u32,
+    // 1 for a, plus 2 for b, plus 4 for a store to memory
+    pub uses: u32,
+}
+
+impl Entry {
+    // Words of an entry.
+    pub const WORDS: usize = 8;
+}
 
 // Word 1 is flags + 512 mask + 2^18 mode, and of an entry below 2^20.
 const MODE_UNIT: u32 = Settings::FLAGS_BOUND * Settings::FLAGS_BOUND;
 
 const PACKED_BOUND: u32 = MODE_UNIT * Settings::MODE_BOUND;
 
-// An entry's word 1.
+// An entry's word of settings.
 pub fn packed(s: Settings) -> u32
     ensures { λ r. ⌜ r ≡ packedOf s ⌝ }
 {
@@ -25,43 +47,130 @@ pub fn packed(s: Settings) -> u32
     (sum % 4294967296) as u32
 }
 
-fn uses_a(word: u32) -> bool
-    ensures { λ r. ⌜ r ≡ usesA word ⌝ }
+// A part of the entry: 0 where it is not used.
+fn part(used: bool, v: u32) -> u32
+    ensures { λ r. ⌜ r ≡ ifUsed used v ⌝ }
 {
-    word % 2 == 1
+    if used { v } else { 0 }
 }
 
-fn uses_b(word: u32) -> bool
-    ensures { λ r. ⌜ r ≡ usesB word ⌝ }
+// A register's number for the entry.
+fn number(w: Write) -> u32
+    ensures { λ r. ⌜ (r ≡ ifUsed (w .used) (w .number)) × (r < 256) ⌝ }
 {
-    word / 2 % 2 == 1
+    if w.used { w.number as u32 } else { 0 }
 }
 
-fn uses_store(word: u32) -> bool
-    ensures { λ r. ⌜ r ≡ usesStore word ⌝ }
+// A register's value for the entry.
+fn held(regs: &[u32; 256], w: Write) -> u32
+    ensures { λ r. ⌜ r ≡ ifUsed (w .used) (getD (now (regs .entry)) (w .number) 0) ⌝ }
 {
-    word / 4 % 2 == 1
+    let i = w.number as usize;
+    part(w.used, regs[i])
+}
+
+// Which parts an entry uses.
+fn uses(a: bool, b: bool, store: bool) -> u32
+    ensures { λ r. ⌜ r ≡ ifUsed a 1 + ifUsed b 2 + ifUsed store 4 ⌝ }
+{
+    a as u32 + 2 * (b as u32) + 4 * (store as u32)
+}
+
+// The entry of a step that writes registers a and b and stores to a cell with an old value, each where it is used.
+pub fn entry_of(regs: &[u32; 256], s: Settings, a: Write, b: Write, store: Store, old: u32) -> Entry
+    ensures { λ r. ⌜ r ≡ entryWith (now (regs .entry)) s a b store old ⌝ }
+{
+    Entry {
+        pc: regs[255],
+        settings: packed(s),
+        numbers: number(a) + 256 * number(b),
+        a: held(regs, a),
+        b: held(regs, b),
+        address: part(store.used, store.address),
+        old: part(store.used, old),
+        uses: uses(a.used, b.used, store.used),
+    }
+}
+
+// Where the entry of a depth starts.
+pub fn start_of(depth: u32) -> usize
+    ensures { λ r. ⌜ r ≡ startOf depth ⌝ }
+{
+    8 * (depth as usize)
+}
+
+// An entry goes into the part of the journal that starts at its place. Nothing is written if the part is shorter than eight words.
+pub fn enter(part: &mut [u32], e: Entry)
+    ensures { λ r. ⌜ now (part .exit) ≡ entered (now (part .entry)) e ⌝ }
+{
+    if part.len() < Entry::WORDS {
+        return;
+    }
+    part[0] = e.pc;
+    part[1] = e.settings;
+    part[2] = e.numbers;
+    part[3] = e.a;
+    part[4] = e.b;
+    part[5] = e.address;
+    part[6] = e.old;
+    part[7] = e.uses;
+}
+
+// The last entry.
+fn last(journal: &[u32], depth: u32) -> Entry
+    requires { ⌜ (1 ≤ depth) × (8 * depth ≤ length (now journal)) ⌝ }
+    ensures { λ r. ⌜ r ≡ lastOf (now (journal .entry)) depth ⌝ }
+{
+    let at = 8 * ((depth - 1) as usize);
+    Entry {
+        pc: journal[at],
+        settings: journal[at + 1],
+        numbers: journal[at + 2],
+        a: journal[at + 3],
+        b: journal[at + 4],
+        address: journal[at + 5],
+        old: journal[at + 6],
+        uses: journal[at + 7],
+    }
+}
+
+fn uses_a(e: Entry) -> bool
+    ensures { λ r. ⌜ r ≡ usesA e ⌝ }
+{
+    e.uses % 2 == 1
+}
+
+fn uses_b(e: Entry) -> bool
+    ensures { λ r. ⌜ r ≡ usesB e ⌝ }
+{
+    e.uses / 2 % 2 == 1
+}
+
+fn uses_store(e: Entry) -> bool
+    ensures { λ r. ⌜ r ≡ usesStore e ⌝ }
+{
+    e.uses / 4 % 2 == 1
 }
 
 // Whether an entry of a machine with m cells cannot be one.
-fn is_damaged(m: usize, w: [u32; 8]) -> bool
-    ensures { λ r. ⌜ r ≡ damagedOf m w ⌝ }
+fn is_damaged(m: usize, e: Entry) -> bool
+    ensures { λ r. ⌜ r ≡ damagedOf m e ⌝ }
 {
-    if m <= w[0] as usize {
+    if m <= e.pc as usize {
         return true;
     }
-    if PACKED_BOUND <= w[1] {
+    if PACKED_BOUND <= e.settings {
         return true;
     }
-    if 65536 <= w[2] {
+    if 65536 <= e.numbers {
         return true;
     }
-    if 7 < w[7] {
+    if 7 < e.uses {
         return true;
     }
-    if uses_store(w[7]) {
-        if 1 <= w[5] {
-            if (w[5] as usize) < m {
+    if uses_store(e) {
+        if 1 <= e.address {
+            if (e.address as usize) < m {
                 return false;
             }
         }
@@ -71,34 +180,49 @@ fn is_damaged(m: usize, w: [u32; 8]) -> bool
 }
 
 // a, b, then PC.
-fn restore_regs(regs: &mut [u32; 256], w: [u32; 8])
-    requires { ⌜ getD w 2 0 < 65536 ⌝ }
-    ensures { λ r. ⌜ now (regs .exit) ≡ regsBefore w (now (regs .entry)) ⌝ }
+fn restore_regs(regs: &mut [u32; 256], e: Entry)
+    requires { ⌜ e .numbers < 65536 ⌝ }
+    ensures { λ r. ⌜ now (regs .exit) ≡ regsBefore e (now (regs .entry)) ⌝ }
 {
-    write_register(regs, uses_a(w[7]), (w[2] % 256) as u8, w[3]);
-    write_register(regs, uses_b(w[7]), (w[2] / 256) as u8, w[4]);
-    regs[255] = w[0];
+    write_register(regs, uses_a(e), (e.numbers % 256) as u8, e.a);
+    write_register(regs, uses_b(e), (e.numbers / 256) as u8, e.b);
+    regs[255] = e.pc;
 }
 
-// What going back by an entry answers: the settings, or stop 9.
+// The settings that an entry packs.
+fn settings_before(e: Entry) -> Settings
+    ensures { λ r. ⌜ r ≡ settingsBefore e ⌝ }
+{
+    Settings {
+        flags: e.settings % Settings::FLAGS_BOUND,
+        mask: e.settings / Settings::FLAGS_BOUND % Settings::FLAGS_BOUND,
+        mode: e.settings / MODE_UNIT,
+    }
+}
+
+// What a step back answers: the settings, stop 9, or stop 8 where there is no last entry.
 pub enum Returned {
     Back(Settings),
     Damaged,
+    Missing,
 }
 
-// A step is taken back by its entry, or nothing is done.
-pub fn take_back(regs: &mut [u32; 256], cells: &mut [u32], w: [u32; 8]) -> Returned
-    ensures { λ r. ⌜ ((s : Settings) (depth : ℕ) (journal : List ℕ) → returnedOf r s depth (now (regs .exit)) (now (cells .exit)) journal
-        ≡ takenBack w (stateWith (now (regs .entry)) s depth (now (cells .entry)) journal)) ⌝ }
+// A step is taken back by the last entry, or nothing is done.
+pub fn take_back(regs: &mut [u32; 256], cells: &mut [u32], journal: &[u32], depth: u32) -> Returned
+    ensures { λ r. ⌜ ((s : Settings) → returnedOf r s depth (now (regs .exit)) (now (cells .exit)) (now (journal .entry))
+        ≡ takenBack (stateWith (now (regs .entry)) s depth (now (cells .entry)) (now (journal .entry)))) ⌝ }
 {
-    if is_damaged(cells.len(), w) {
+    if depth == 0 {
+        return Returned::Missing;
+    }
+    if journal.len() < start_of(depth) {
+        return Returned::Missing;
+    }
+    let e = last(journal, depth);
+    if is_damaged(cells.len(), e) {
         return Returned::Damaged;
     }
-    write_cell(cells, uses_store(w[7]), w[5], w[6]);
-    restore_regs(regs, w);
-    Returned::Back(Settings {
-        flags: w[1] % Settings::FLAGS_BOUND,
-        mask: w[1] / Settings::FLAGS_BOUND % Settings::FLAGS_BOUND,
-        mode: w[1] / MODE_UNIT,
-    })
+    write_cell(cells, uses_store(e), e.address, e.old);
+    restore_regs(regs, e);
+    Returned::Back(settings_before(e))
 }

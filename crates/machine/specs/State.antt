@@ -7,8 +7,7 @@ use lib.ListN.{replicate, length, getD, set}
 use Rattle.machine.specs.declared.Settings.{Settings}
 use Rattle.machine.specs.declared.Machine.{Machine}
 
--- Registers 0 to 255 hold 32 bits; register 255 is PC. The host lends M cells of 32 bits and a journal of 32-bit words.
--- Depth is the number of journal entries in use. Settings are the flags, the mask and the rounding mode.
+-- All that there is to see: 256 registers, flags with mask and mode, how many entries are in use, the lent cells and the lent journal.
 pub record State : Type 0 where
   pub regs : List ℕ
   pub settings : Settings
@@ -16,7 +15,7 @@ pub record State : Type 0 where
   pub cells : List ℕ
   pub journal : List ℕ
 
--- register 255 is PC
+-- the PC
 abbrev pub pcOf : List ℕ → ℕ
 pcOf regs = getD regs 255 0
 
@@ -36,25 +35,25 @@ stateOf m cells journal = record { regs = m .regs; settings = m .settings; depth
 abbrev pub stateWith : List ℕ → Settings → ℕ → List ℕ → List ℕ → State
 stateWith regs s depth cells journal = record { regs = regs; settings = s; depth = depth; cells = cells; journal = journal }
 
--- A fresh machine has all registers 0, flags 0, mask 0, rounding mode 3, depth 0.
+-- the settings and the machine that nothing was done to: all 0, but for mode 3
 abbrev pub freshSettings : Settings
 freshSettings = record { flags = 0; mask = 0; mode = 3 }
 
 unfoldable pub freshMachine : Machine
 freshMachine = record { regs = replicate 256 0; settings = freshSettings; depth = 0 }
 
--- M, 1 to 16,384
+-- the largest M
 abbrev pub mostCells : ℕ
 mostCells = 16384
 
--- J is the lesser of 65,536 and the journal's length divided by 8, rounded down.
+-- J, for a journal of so many words: whole entries of eight, at most 65,536
 unfoldable pub entriesIn : ℕ → ℕ
 entriesIn words = min 65536 (words / 8)
 
 unfoldable pub capacityOf : List ℕ → ℕ
 capacityOf journal = entriesIn (length journal)
 
--- 12: M is 0 or above 16,384. 10: flags or mask above 511, mode above 3.
+-- what stops 12 and 10 are for
 abbrev pub badCells : ℕ → Bool
 badCells m = eqb m 0 || ltb mostCells m
 

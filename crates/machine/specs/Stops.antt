@@ -3,7 +3,7 @@ use Prim.Native.Nat.{ℕ}
 use Rattle.machine.specs.declared.Stop.{Stop}
 use Rattle.machine.specs.declared.Stop.the-variants.{Done, Ended, Trap, Int, Fetch, Fault, Float, Full, Start, Damaged, Unsettled, Deep, Cells}
 
--- The stop's number; for INT Rn's value and imm, and 0 and 0 for all other stops.
+-- A stop as it is answered: its number with two values, which only INT fills.
 pub record Said : Type 0 where
   pub number : ℕ
   pub value : ℕ

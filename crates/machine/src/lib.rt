@@ -1,6 +1,7 @@
 // The machine by value, 256 registers, settings and depth; what a call can say; what is asked of M, settings and journal; a write that may be none.
 ghost use mathlib.Core.Path.{_≡_};
 ghost use mathlib.Core.Bool.{not};
+ghost use lib.ListN.{getD};
 ghost use Rattle.machine.specs.State.{freshMachine, badCells, badSettings, entriesIn, writeIf};
 ghost use Rattle.machine.specs.Stops.{saidOf};
 
@@ -41,7 +42,7 @@ impl Machine {
 
     pub const MOST_ENTRIES: u32 = 65536;
 
-    // A fresh machine: all registers 0, flags 0, mask 0, rounding mode 3, depth 0.
+    // All is 0, but for rounding mode 3.
     pub fn fresh() -> Self
         ensures { λ r. ⌜ r ≡ freshMachine ⌝ }
     {
@@ -97,7 +98,7 @@ impl Stop {
     }
 }
 
-// Whether M is 1 to 16,384.
+// Whether there can be so many cells.
 pub fn good_cells(m: usize) -> bool
     ensures { λ r. ⌜ r ≡ not (badCells m) ⌝ }
 {
@@ -126,7 +127,7 @@ pub fn good_settings(s: Settings) -> bool
     true
 }
 
-// J of a journal of so many words: the lesser of 65,536 and that number divided by 8.
+// J of a journal of so many words.
 pub fn capacity(words: usize) -> u32
     ensures { λ r. ⌜ r ≡ entriesIn words ⌝ }
 {
@@ -158,4 +159,12 @@ pub fn write_cell(cells: &mut [u32], used: bool, address: u32, value: u32)
             cells[i] = value;
         }
     }
+}
+
+// The cell at an address; past the cells it is 0.
+pub fn read_cell(cells: &[u32], address: u32) -> u32
+    ensures { λ r. ⌜ r ≡ getD (now (cells .entry)) address 0 ⌝ }
+{
+    let i = address as usize;
+    if i < cells.len() { cells[i] } else { 0 }
 }

@@ -4,7 +4,8 @@ use Prim.Native.Nat.{ℕ}
 use mathlib.Core.Path.{_≡_, sym, ap, _∙_}
 use mathlib.Core.List.{List}
 use Rattle.runner.specs.declared.Ran.{Ran}
-use Rattle.runner.specs.Calls.{Out, outOf}
+use Rattle.runner.specs.Calls.{Out}
+use Rattle.runner.specs.Answers.{outOf}
 use Rattle.machine.proofs.Named.{heard, heard-said}
 
 -- the answer, cells and journal that were left

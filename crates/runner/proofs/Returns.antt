@@ -1,6 +1,6 @@
 -- What a turn of the loop does to the definition of going back.
 -- Assumes nothing.
-use Prim.Native.Nat.{ℕ, suc, _+_, _-_, _≤_, _<_}
+use Prim.Native.Nat.{ℕ, suc, _+_, _-_, _*_, _≤_, _<_}
 use mathlib.Core.Path.{_≡_, refl, sym, _∙_}
 use mathlib.Core.Bool.{Bool, true, false, cond}
 use mathlib.Core.Option.{Option, none, some}
@@ -8,11 +8,14 @@ use mathlib.Core.List.{List}
 use native.Mathlib.Nat.{sub-zero}
 use native.Mathlib.Omega.{arith}
 use lib.ListN.{length}
-use borrow.Author.Tests.{eq-eqb, ne-eqb}
+use lib.Dec.{ltb, eqb}
+use borrow.Author.Tests.{le-ltb, eqb-false}
 use Rattle.machine.specs.declared.Settings.{Settings}
 use Rattle.journal.specs.declared.Returned.{Returned}
 use Rattle.machine.specs.State.{State, capacityOf}
-use Rattle.journal.specs.Journal.{lastOf, damagedOf, undoOf, Gone, takenBack, returnedOf}
+use Rattle.journal.specs.Journal.{lastOf, damagedOf, undoOf, Gone, takenBack}
+use Rattle.journal.specs.Answers.{returnedOf}
+use Rattle.step.proofs.Steps.{entries}
 use Rattle.machine.specs.Stops.{plainly}
 use Rattle.runner.proofs.Turns.{left}
 use Rattle.runner.specs.Calls.{Out, stopAt, backFrom}
@@ -29,26 +32,35 @@ homeward-by : (u : Bool) (rest : ℕ → State → Out) (k : ℕ) (s : State) �
 homeward-by true rest k s = refl
 homeward-by false rest k s = refl
 
--- a step back that was there to take
-abbrev Took : State → Gone → Type 0
-Took s w = w ≡ takenBack (lastOf (s .journal) (s .depth)) s
+-- a step back, by whether there is one to take
+module _ (s : State) (room : s .depth ≤ capacityOf (s .journal)) where
+  within : ltb (length (s .journal)) (8 * s .depth) ≡ false
+  within = le-ltb (length (s .journal)) (8 * s .depth) (entries (s .journal) (s .depth) room)
 
-turn : (n k : ℕ) (s : State) (w : Gone) (o : Option ℕ) → 1 ≤ s .depth → Took s w → w .stop ≡ o → backFrom (suc n) k s ≡ homeward (backFrom n) o k (w .state)
-unfolding backFrom takenBack
-turn n k s w o d e p =
-    rw (ne-eqb (s .depth) 0 (λ z. omega arith)) (homeward-by (damagedOf (length (s .cells)) (lastOf (s .journal) (s .depth))) (backFrom n) k s ∙ rw (← e, p))
+  turn-by : (t : Bool) (n k : ℕ) → eqb (s .depth) 0 ≡ t → backFrom (suc n) k s ≡ homeward (backFrom n) (takenBack s .stop) k (takenBack s .state)
+  unfolding backFrom takenBack
+  turn-by true n k e = rw e
+  turn-by false n k e = rw (e, within) (homeward-by (damagedOf (length (s .cells)) (lastOf (s .journal) (s .depth))) (backFrom n) k s)
 
-pub deep : (d : ℕ) → (d ≡ 0 → ⊥) → 1 ≤ d
-deep d h = omega arith
+  turn : (n k : ℕ) (w : Gone) (o : Option ℕ) → w ≡ takenBack s → w .stop ≡ o → backFrom (suc n) k s ≡ homeward (backFrom n) o k (w .state)
+  turn n k w o e p = turn-by (eqb (s .depth) 0) n k refl ∙ rw (← e, p)
 
-none-left : (n k : ℕ) (s : State) → s .depth ≡ 0 → backFrom (suc n) k s ≡ stopAt (plainly 8) k s
-unfolding backFrom
-none-left n k s z = rw (eq-eqb (s .depth) 0 z)
+-- a step that was taken back was there
+not-some : {k : ℕ} → some k ≡ none → ⊥
+not-some h = let z : _≡_ {A = ℕ} 0 1 = cc in omega arith
 
--- the answer's case and the entry are known
-pub as-told : (r v : Returned) (w last : List ℕ) (s : Settings) (depth : ℕ) (regs cells journal : List ℕ) (at : State)
-    → r ≡ v → w ≡ last → returnedOf r s depth regs cells journal ≡ takenBack w at → returnedOf v s depth regs cells journal ≡ takenBack last at
-as-told r v w last s depth regs cells journal at e l h = rw (← e, ← l) h
+deep-by : (t : Bool) (s : State) → eqb (s .depth) 0 ≡ t → takenBack s .stop ≡ none → 1 ≤ s .depth
+unfolding takenBack
+deep-by true s e h = absurd (not-some (rw e at h))
+deep-by false s e h = let z : s .depth ≡ 0 → ⊥ = eqb-false (s .depth) 0 e in omega arith
+
+pub deep : (s : State) (w : Gone) → w ≡ takenBack s → w .stop ≡ none → 1 ≤ s .depth
+deep s w e p = deep-by (eqb (s .depth) 0) s refl (rw e at p)
+
+-- the answer's case is known
+pub as-told : (r v : Returned) (s : Settings) (depth : ℕ) (regs cells journal : List ℕ) (at : State)
+    → r ≡ v → returnedOf r s depth regs cells journal ≡ takenBack at → returnedOf v s depth regs cells journal ≡ takenBack at
+as-told r v s depth regs cells journal at e h = rw (← e) h
 
 -- Going back that is under way: what is left of it leads where the whole leads.
 pub record Returning (number : ℕ) (from at : State) (done : ℕ) : Type 0 where
@@ -69,18 +81,15 @@ module _ (number : ℕ) (from at : State) (done : ℕ) (u : Returning number fro
     one-left : backFrom (suc (number - (done + 1))) done at ≡ backFrom number 0 from
     one-left = rw (← left number done below) (u .rest)
 
-    pub at-start : at .depth ≡ 0 → stopAt (plainly 8) done at ≡ backFrom number 0 from
-    at-start z = sym (none-left (number - (done + 1)) done at z) ∙ one-left
-
-    module _ (w : Gone) (deep : 1 ≤ at .depth) (e : w ≡ takenBack (lastOf (at .journal) (at .depth)) at) where
+    module _ (w : Gone) (e : w ≡ takenBack at) where
       pub again : w .stop ≡ none → w .state .depth ≤ at .depth → w .state .journal ≡ at .journal → length (w .state .cells) ≡ length (at .cells)
           → Returning number from (w .state) (done + 1)
       again p d j c = record {
         few = omega arith;
         room = rw j (omega (arith, u .room));
         cells = c ∙ u .cells;
-        rest = sym (turn (number - (done + 1)) done at w none deep e p) ∙ one-left;
+        rest = sym (turn at (u .room) (number - (done + 1)) done w none e p) ∙ one-left;
       }
 
       pub breaks-off : (x : ℕ) → w .stop ≡ some x → stopAt (plainly x) done (w .state) ≡ backFrom number 0 from
-      breaks-off x p = sym (turn (number - (done + 1)) done at w (some x) deep e p) ∙ one-left
+      breaks-off x p = sym (turn at (u .room) (number - (done + 1)) done w (some x) e p) ∙ one-left

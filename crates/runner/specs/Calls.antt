@@ -2,25 +2,19 @@
 use Prim.Native.Nat.{ℕ, zero, suc, _+_}
 use mathlib.Core.Bool.{cond}
 use mathlib.Core.Option.{Option, none, some}
-use mathlib.Core.List.{List}
 use lib.Dec.{ltb, eqb}
 use lib.ListN.{length}
 use Rattle.machine.specs.declared.Settings.{Settings}
-use Rattle.runner.specs.declared.Ran.{Ran}
-use Rattle.machine.specs.State.{State, stateOf, capacityOf, badCells, badSettings}
+use Rattle.machine.specs.State.{State, capacityOf, badCells, badSettings}
 use Rattle.journal.specs.Journal.{lastOf, damagedOf, undoOf}
-use Rattle.machine.specs.Stops.{saidOf, Said, plainly}
+use Rattle.machine.specs.Stops.{Said, plainly}
 use Rattle.step.specs.Step.{Course, going, stopped, refused, stepOf}
 
--- All that a call leaves: machine, cells and journal, what it says, and the count done. A call's answer with the cells and journal
--- that it left, as such.
+-- All that a call leaves: the state, what it says, and how many steps it did.
 pub record Out : Type 0 where
   pub state : State
   pub said : Said
   pub count : ℕ
-
-abbrev pub outOf : Ran → List ℕ → List ℕ → Out
-outOf r cells journal = record { state = stateOf (r .machine) cells journal; said = saidOf (r .stop); count = r .count }
 
 abbrev pub stopAt : Said → ℕ → State → Out
 stopAt x k s = record { state = s; said = x; count = k }
@@ -31,12 +25,12 @@ onward rest going k s = rest (k + 1) s
 onward rest (stopped x) k s = stopAt x (k + 1) s
 onward rest (refused x) k s = stopAt x k s
 
--- n steps more, k done before. Before each step: number done.
+-- A run with n steps to do and k done: the number is looked at before each step.
 unfoldable pub runFrom : ℕ → ℕ → State → Out
 runFrom zero k s = stopAt (plainly 0) k s
 runFrom (suc n) k s = onward (runFrom n) (stepOf s .course) k (stepOf s .state)
 
--- Back takes single steps: number done, 8, 9.
+-- The same back: the number, then depth 0, then a damaged entry.
 unfoldable pub backFrom : ℕ → ℕ → State → Out
 backFrom zero k s = stopAt (plainly 0) k s
 backFrom (suc n) k s =
@@ -44,7 +38,7 @@ backFrom (suc n) k s =
     (cond (damagedOf (length (s .cells)) (lastOf (s .journal) (s .depth))) (stopAt (plainly 9) k s)
     (backFrom n (k + 1) (undoOf s)))
 
--- Once a call: 12, 10, 11. None of them, or the first, for M cells, the settings, J and the depth. 11: depth above J.
+-- What keeps a call from beginning, or none: M, then the settings, then a depth above J.
 unfoldable pub checkOf : ℕ → Settings → ℕ → ℕ → Option ℕ
 checkOf m s j depth =
     cond (badCells m) (some 12)
@@ -62,7 +56,7 @@ called none body n s = body n 0 s
 abbrev pub callOf : (ℕ → ℕ → State → Out) → ℕ → State → Out
 callOf body n s = called (checkIn s) body n s
 
--- A run of budget n, and back by n.
+-- the calls, by a budget and by a number of steps
 abbrev pub runOf : ℕ → State → Out
 runOf n s = callOf runFrom n s
 

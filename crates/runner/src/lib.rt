@@ -1,11 +1,10 @@
 // The calls step, run and back: a machine by value, over cells and a journal that the host lends.
 ghost use mathlib.Core.Path.{_≡_};
-ghost use Prim.Native.Nat.{_*_, _≤_};
-ghost use lib.ListN.{length};
+ghost use Prim.Native.Nat.{_≤_};
 ghost use Rattle.machine.specs.State.{stateOf, capacityOf};
-ghost use Rattle.runner.specs.Calls.{checkOf, outOf, runFrom, backFrom, runOf, backOf};
+ghost use Rattle.runner.specs.Calls.{checkOf, runFrom, backFrom, runOf, backOf};
+ghost use Rattle.runner.specs.Answers.{outOf};
 ghost use Rattle.runner.specs.Inner.{checkedOf, saidBy};
-ghost use Rattle.journal.specs.Journal.{lastOf};
 use journal::Returned;
 use journal::take_back;
 use machine::Machine;
@@ -30,7 +29,7 @@ enum Checked {
     Bad(Stop),
 }
 
-// Once a call: 12, 10, 11.
+// The stops that keep a call from beginning, in their order.
 fn check(size: usize, s: Settings, most: u32, depth: u32) -> Checked
     ensures { λ r. ⌜ checkedOf r ≡ saidBy (checkOf size s most depth) ⌝ }
 {
@@ -86,24 +85,6 @@ fn run_on(m: Machine, cells: &mut [u32], journal: &mut [u32], budget: u64) -> Ra
     }
 }
 
-// The last entry's words.
-fn last(journal: &[u32], depth: u32) -> [u32; 8]
-    requires { ⌜ (1 ≤ depth) × (8 * depth ≤ length (now journal)) ⌝ }
-    ensures { λ r. ⌜ r ≡ lastOf (now (journal .entry)) depth ⌝ }
-{
-    let at = 8 * ((depth - 1) as usize);
-    [
-        journal[at],
-        journal[at + 1],
-        journal[at + 2],
-        journal[at + 3],
-        journal[at + 4],
-        journal[at + 5],
-        journal[at + 6],
-        journal[at + 7],
-    ]
-}
-
 // As many steps back as the number says, or up to a stop. The journal is not written.
 fn back_on(m: Machine, cells: &mut [u32], journal: &[u32], number: u64) -> Ran
     requires { ⌜ m .depth ≤ capacityOf (now journal) ⌝ }
@@ -115,16 +96,16 @@ fn back_on(m: Machine, cells: &mut [u32], journal: &[u32], number: u64) -> Ran
     let mut undone: u64 = 0;
     let mut stop = Stop::Done;
     while undone < number {
-        if depth == 0 {
-            stop = Stop::Start;
-            break;
-        }
-        let returned = take_back(&mut regs, cells, last(journal, depth));
+        let returned = take_back(&mut regs, cells, journal, depth);
         match returned {
             Returned::Back(before) => {
                 settings = before;
                 depth = depth - 1;
                 undone = undone + 1;
+            }
+            Returned::Missing => {
+                stop = Stop::Start;
+                break;
             }
             Returned::Damaged => {
                 stop = Stop::Damaged;

@@ -14,6 +14,7 @@ use lib.Seq.{sets, length-sets}
 use borrow.Author.Tests.{leb-false}
 use Rattle.machine.specs.declared.Settings.{Settings}
 use Rattle.machine.specs.State.{State, capacityOf, writeIf, entriesIn, firstSpecial, pcOf, InRange}
+use Rattle.journal.specs.Words.{eightOf}
 use Rattle.journal.specs.Journal.{writesIn, settledOf, settingsAfter, cellsAfter, regsAfter, entryOf, endedOf, applyOf}
 use Rattle.step.specs.Step.{actionIn, refusalOf, effectIn, moved, stepOf}
 use Rattle.effect.specs.Refusal.{refusedBy}
@@ -23,7 +24,7 @@ use Rattle.cell.proofs.Fields.{decoded-in-range}
 use Rattle.effect.specs.declared.Write.{Write}
 use Rattle.effect.proofs.Safe.{Safe, safe}
 use Rattle.effect.proofs.Ranges.{Ranged, ranged}
-use Rattle.journal.proofs.Entry.{Formed, length-regs, lengths}
+use Rattle.journal.proofs.Undo.{Formed, length-regs, lengths}
 
 -- no test of a row stopped
 not-some : {k : ℕ} → some k ≡ none → ⊥
@@ -72,7 +73,7 @@ ready-after : (s : State) → Ready (s .settings) (s .depth) (s .journal) → Cl
 unfolding settingsAfter
 ready-after s r c = record {
   settled = settled-in (endedOf (regsAfter (effectIn s) (s .regs))) (effectIn s .settings) (safe-in s c .settings (r .settled));
-  room = rw (capacity-sets (s .journal) (entryOf (effectIn s) (s .regs) (s .settings) (s .cells)) (8 * s .depth)) (omega (arith, c .space));
+  room = rw (capacity-sets (s .journal) (eightOf (entryOf (effectIn s) (s .regs) (s .settings) (s .cells))) (8 * s .depth)) (omega (arith, c .space));
 }
 
 -- writes of 32-bit words keep a list of them one

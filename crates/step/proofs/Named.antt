@@ -7,7 +7,8 @@ use Rattle.machine.proofs.Named.{heard, heard-said}
 use Rattle.step.specs.declared.Verdict.{Verdict}
 use Rattle.step.specs.declared.Verdict.the-variants.{Going, Stopped, Refused}
 use Rattle.step.specs.declared.Advanced.{Advanced}
-use Rattle.step.specs.Step.{Course, going, stopped, refused, Moved, verdictOf, advancedTo}
+use Rattle.step.specs.Step.{Course, going, stopped, refused, Moved}
+use Rattle.step.specs.Answers.{verdictOf, advancedTo}
 
 -- the verdict that was told
 abbrev verdict : Course → Verdict

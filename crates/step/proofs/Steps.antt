@@ -10,6 +10,8 @@ use lib.Dec.{leb}
 use lib.ListN.{length}
 use borrow.Author.Tests.{lt-leb, le-leb}
 use Rattle.effect.specs.declared.Effect.{Effect}
+use Rattle.effect.specs.declared.Answer.{Answer}
+use Rattle.effect.specs.declared.Answer.the-variants.{Onward, Interrupt}
 use Rattle.machine.specs.declared.Settings.{Settings}
 use Rattle.effect.specs.declared.instruction.Considered.{Considered}
 use Rattle.machine.specs.State.{State, capacityOf, entriesIn, firstSpecial, pcOf}
@@ -17,9 +19,14 @@ use Rattle.journal.specs.Journal.{applyOf}
 use Rattle.effect.specs.Refusal.{refusedBy}
 use Rattle.step.specs.Step.{actionIn, refusalOf, effectIn, Course, refused, stopped, answered, courseOf, stepOf}
 use Rattle.machine.specs.Stops.{plainly}
-use Rattle.step.specs.Inner.{doneOf}
+use Rattle.step.specs.Inner.{doneOf, answeredBy, courseBy}
 use Rattle.effect.specs.Inner.{Told, does, told, meant, toldOf}
 use Rattle.effect.proofs.Safe.{Safe, safe}
+
+-- the answer as the code tells it
+pub answered-by : (e : Effect) (a : Answer) → answeredBy a (e .raised) (e .settings .mask) ≡ answered a e
+answered-by e Onward = refl
+answered-by e (Interrupt value imm) = refl
 
 module _ (s : State) where
   pub refused-with : (k : ℕ) → refusalOf s ≡ some k → record { state = s; course = refused (plainly k) } ≡ stepOf s
@@ -29,13 +36,6 @@ module _ (s : State) where
   pub done-with : (e : Effect) → refusalOf s ≡ none → effectIn s ≡ e → doneOf e s ≡ stepOf s
   unfolding stepOf
   done-with e h i = rw (h, i)
-
-  -- the state and the course that carrying an effect out leaves
-  pub done-as : (e : Effect) (x : State) (v : Course) → x ≡ applyOf e s
-      → v ≡ cond (leb firstSpecial (pcOf (x .regs))) (stopped (plainly 1)) (answered (e .answer) e)
-      → record { state = x; course = v } ≡ doneOf e s
-  unfolding courseOf
-  done-as e x v p q = rw (q, p)
 
   pub at-end : firstSpecial ≤ pcOf (s .regs) → refusalOf s ≡ some 1
   unfolding refusalOf

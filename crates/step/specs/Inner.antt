@@ -1,23 +1,24 @@
 -- What only the contracts of private functions cite, each a short way to name what the definitions make: nothing here is promised.
-use Prim.Native.Nat.{ℕ, _+_, _*_, _<_}
-use mathlib.Core.Path.{_≡_}
-use mathlib.Core.Bool.{true}
-use mathlib.Core.List.{List, [], _∷_}
-use lib.ListN.{length, getD}
-use Rattle.machine.specs.declared.Settings.{Settings}
+use Prim.Native.Nat.{ℕ}
+use mathlib.Core.Bool.{cond, not}
+use lib.Bits.{bitAnd}
+use lib.Dec.{leb, eqb}
+use Rattle.machine.specs.State.{State, firstSpecial}
+use Rattle.machine.specs.Stops.{plainly}
 use Rattle.effect.specs.declared.Effect.{Effect}
-use Rattle.machine.specs.State.{pcOf, State}
-use Rattle.journal.specs.Journal.{packedOf, applyOf}
-use Rattle.step.specs.Step.{courseOf, Moved}
-
--- a store is to a cell
-abbrev pub Stores : Effect → List ℕ → Type 0
-Stores e cells = e .store .used ≡ true → e .store .address < length cells
+use Rattle.effect.specs.declared.Answer.{Answer}
+use Rattle.effect.specs.declared.Answer.the-variants.{Onward, Interrupt}
+use Rattle.journal.specs.Journal.{applyOf}
+use Rattle.step.specs.Step.{Course, going, stopped, courseOf, Moved}
 
 -- what carrying an effect out makes of a step
 abbrev pub doneOf : Effect → State → Moved
 doneOf e s = record { state = applyOf e s; course = courseOf e (s .regs) }
 
--- the entry of a step that writes registers a and b, and no cell
-abbrev pub pairEntry : List ℕ → Settings → ℕ → ℕ → List ℕ
-pairEntry regs s a b = pcOf regs ∷ packedOf s ∷ (a + 256 * b) ∷ getD regs a 0 ∷ getD regs b 0 ∷ 0 ∷ 0 ∷ 3 ∷ []
+-- what becomes of a step that left PC at pc, from its answer, the flags that it raised and the mask
+abbrev pub answeredBy : Answer → ℕ → ℕ → Course
+answeredBy Onward raised mask = cond (not (eqb (bitAnd raised mask) 0)) (stopped (plainly 2)) going
+answeredBy (Interrupt value imm) raised mask = stopped (record { number = 3; value = value; imm = imm })
+
+abbrev pub courseBy : ℕ → Answer → ℕ → ℕ → Course
+courseBy pc answer raised mask = cond (leb firstSpecial pc) (stopped (plainly 1)) (answeredBy answer raised mask)

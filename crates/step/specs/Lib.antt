@@ -1,3 +1,4 @@
 pub mod Step
+pub mod Answers
 pub mod Inner
 pub mod Steps

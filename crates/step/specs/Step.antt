@@ -12,19 +12,16 @@ use Rattle.effect.specs.Refusal.{refusedBy}
 use Rattle.effect.specs.declared.Effect.{Effect}
 use Rattle.effect.specs.declared.Answer.{Answer}
 use Rattle.effect.specs.declared.Answer.the-variants.{Onward, Interrupt}
-use Rattle.machine.specs.State.{State, stateWith, capacityOf, pcOf}
-use Rattle.step.specs.declared.Verdict.{Verdict}
-use Rattle.step.specs.declared.Verdict.the-variants.{Going, Stopped, Refused}
-use Rattle.step.specs.declared.Advanced.{Advanced}
+use Rattle.machine.specs.State.{State, capacityOf, pcOf}
 use Rattle.effect.specs.Effect.{effectOf}
 use Rattle.journal.specs.Journal.{endedOf, regsAfter, applyOf}
-use Rattle.machine.specs.Stops.{saidOf, Said, plainly}
+use Rattle.machine.specs.Stops.{Said, plainly}
 
--- What the instruction that the cell at PC is asks for.
+-- what the cell at PC asks for
 abbrev pub actionIn : State → Action
 actionIn s = actionOf (decodeOf (getD (s .cells) (pcOf (s .regs)) 0))
 
--- Before each step: 1, 4, 7, 6, 5. None of them, or the first.
+-- The stop that keeps a step from being done, or none: ended, a fetch past the cells, a full journal, then the instruction's own.
 unfoldable pub refusalOf : State → Option ℕ
 refusalOf s =
     cond (endedOf (s .regs)) (some 1)
@@ -36,17 +33,17 @@ refusalOf s =
 unfoldable pub effectIn : State → Effect
 effectIn s = effectOf (actionIn s) s
 
--- What became of a step: done and going on, done and stopped, or refused with nothing done.
+-- What became of a step: it was done, and another may follow or not; or it was not done.
 pub data Course : Type 0 where
   going : Course
   stopped : Said → Course
   refused : Said → Course
 
--- 2: a flag this step wrote as 1, even over a 1, is in the mask
+-- whether the mask has a flag that the step raised
 abbrev pub trapsOf : Effect → Bool
 trapsOf e = not (eqb (bitAnd (e .raised) (e .settings .mask)) 0)
 
--- After it: 1, 3, 2.
+-- The stop after a step, or none: ended, then INT, then a trap.
 abbrev pub answered : Answer → Effect → Course
 answered Onward e = cond (trapsOf e) (stopped (plainly 2)) going
 answered (Interrupt value imm) e = stopped (record { number = 3; value = value; imm = imm })
@@ -54,7 +51,7 @@ answered (Interrupt value imm) e = stopped (record { number = 3; value = value; 
 unfoldable pub courseOf : Effect → List ℕ → Course
 courseOf e regs = cond (endedOf (regsAfter e regs)) (stopped (plainly 1)) (answered (e .answer) e)
 
--- One step: the machine, cells and journal after it, and what became of it. A refused step changes nothing.
+-- One step: the state after it, which is the one before it where it was refused, and what became of it.
 pub record Moved : Type 0 where
   pub state : State
   pub course : Course
@@ -65,12 +62,3 @@ moved none s = record { state = applyOf (effectIn s) s; course = courseOf (effec
 
 unfoldable pub stepOf : State → Moved
 stepOf s = moved (refusalOf s) s
-
--- what became of a step, from the code's answer
-abbrev pub verdictOf : Verdict → Course
-verdictOf Going = going
-verdictOf (Stopped x) = stopped (saidOf x)
-verdictOf (Refused x) = refused (saidOf x)
-
-abbrev pub advancedTo : Advanced → List ℕ → List ℕ → List ℕ → Moved
-advancedTo r regs cells journal = record { state = stateWith regs (r .settings) (r .depth) cells journal; course = verdictOf (r .verdict) }

@@ -1,16 +1,12 @@
 // One step: what stops it, its effect, and carrying it out. The registers are lent, so that a run copies no machine.
 ghost use mathlib.Core.Path.{_≡_};
-ghost use mathlib.Core.Bool.{cond};
-ghost use lib.Dec.{leb};
-ghost use Rattle.machine.specs.State.{firstSpecial, stateWith};
-ghost use Rattle.machine.specs.Stops.{plainly};
-ghost use Rattle.step.specs.Step.{stopped, answered, stepOf, verdictOf, advancedTo};
+ghost use Rattle.machine.specs.State.{stateWith};
+ghost use Rattle.step.specs.Step.{stepOf};
+ghost use Rattle.step.specs.Answers.{advancedTo};
 
-mod entry;
+mod after;
 mod perform;
 
-use effect::Answer;
-use effect::Effect;
 use effect::instruction::Considered;
 use effect::instruction::consider;
 use machine::Address;
@@ -46,27 +42,6 @@ fn refused(settings: Settings, depth: u32, stop: Stop) -> Advanced
         settings,
         depth,
         verdict: Verdict::Refused(stop),
-    }
-}
-
-// After a step that left PC at pc: 1, 3, 2.
-pub(crate) fn verdict_of(pc: u32, e: Effect) -> Verdict
-    ensures { λ r. ⌜ verdictOf r ≡ cond (leb firstSpecial pc) (stopped (plainly 1)) (answered (e .answer) e) ⌝ }
-{
-    if Address::FLAGS <= pc {
-        return Verdict::Stopped(Stop::Ended);
-    }
-    let answer = e.answer;
-    match answer {
-        Answer::Interrupt { value, imm } => Verdict::Stopped(Stop::Int { value, imm }),
-        Answer::Onward => {
-            let settings = e.settings;
-            if e.raised & settings.mask == 0 {
-                Verdict::Going
-            } else {
-                Verdict::Stopped(Stop::Trap)
-            }
-        }
     }
 }
 

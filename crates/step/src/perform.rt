@@ -1,61 +1,43 @@
 // A step that is done: the journal entry of what an instruction does, its writes, and what became of the step.
 ghost use mathlib.Core.Path.{_≡_};
-ghost use mathlib.Core.Bool.{true, false, cond, not};
+ghost use mathlib.Core.Bool.{false};
 ghost use mathlib.Core.List.{List};
-ghost use Prim.Native.Nat.{ℕ, _+_, _*_, _<_};
-ghost use lib.Bits.{bitAnd};
-ghost use lib.Dec.{leb, eqb};
+ghost use Prim.Native.Nat.{ℕ, _<_};
 ghost use lib.ListN.{length};
-ghost use Rattle.machine.specs.State.{firstSpecial, capacityOf, stateWith};
+ghost use lib.Seq.{sets};
+ghost use Rattle.machine.specs.State.{capacityOf, stateWith};
+ghost use Rattle.effect.specs.Parts.{noStore, gets};
 ghost use Rattle.effect.specs.Inner.{movingOf, writingOf, storingOf, splittingOf, swappingOf};
-ghost use Rattle.journal.specs.Journal.{settledOf};
-ghost use Rattle.machine.specs.Stops.{plainly};
-ghost use Rattle.step.specs.Step.{going, stopped, verdictOf, advancedTo};
-ghost use Rattle.step.specs.Inner.{Stores, doneOf, pairEntry};
+ghost use Rattle.journal.specs.Words.{eightOf, startOf, entryWith};
+ghost use Rattle.journal.specs.Journal.{writesIn, regsAfter};
+ghost use Rattle.step.specs.Answers.{advancedTo};
+ghost use Rattle.step.specs.Inner.{doneOf};
 use crate::Advanced;
-use crate::Verdict;
-use crate::entry::carry_out;
-use crate::entry::enter;
-use crate::entry::settle;
-use crate::verdict_of;
+use crate::after::left_at;
+use effect::Answer;
 use effect::Effect;
+use effect::Store;
+use effect::Write;
 use effect::instruction::Moving;
 use effect::instruction::Pairing;
 use effect::instruction::Storing;
 use effect::instruction::Writing;
-use journal::packed;
-use machine::Address;
+use journal::Entry;
+use journal::enter;
+use journal::entry_of;
+use journal::start_of;
 use machine::Settings;
-use machine::Stop;
+use machine::read_cell;
+use machine::write_cell;
+use machine::write_register;
 
-// After a step that left PC at pc, and answers to go on: 1, 2, or none.
-fn onward(pc: u32, raised: u32, mask: u32) -> Verdict
-    ensures { λ r. ⌜ verdictOf r ≡ cond (leb firstSpecial pc) (stopped (plainly 1)) (cond (not (eqb (bitAnd raised mask) 0)) (stopped (plainly 2)) going) ⌝ }
+// The part of the journal that starts at 8 times depth is lent on to the entry's writer.
+fn note(journal: &mut [u32], depth: u32, entry: Entry)
+    requires { ⌜ depth < capacityOf (now journal) ⌝ }
+    ensures { λ r. ⌜ now (journal .exit) ≡ sets (now (journal .entry)) (startOf depth) (eightOf entry) ⌝ }
 {
-    if Address::FLAGS <= pc {
-        return Verdict::Stopped(Stop::Ended);
-    }
-    if raised & mask == 0 {
-        Verdict::Going
-    } else {
-        Verdict::Stopped(Stop::Trap)
-    }
-}
-
-// A step that left PC at pc and raised flags: 1 with flag 256, 2, or none.
-fn left_at(pc: u32, s: Settings, depth: u32, raised: u32) -> Advanced
-    requires { ⌜ depth < 65536 ⌝ }
-    ensures settled { λ r. ⌜ r .settings ≡ settledOf (leb firstSpecial pc) s ⌝ }
-    ensures deeper { λ r. ⌜ r .depth ≡ depth + 1 ⌝ }
-    ensures course { λ r. ⌜ verdictOf (r .verdict) ≡ cond (leb firstSpecial pc) (stopped (plainly 1)) (cond (not (eqb (bitAnd raised (s .mask)) 0)) (stopped (plainly 2)) going) ⌝ }
-{
-    let verdict = onward(pc, raised, s.mask);
-    let settings = settle(pc, s);
-    Advanced {
-        settings,
-        depth: depth + 1,
-        verdict,
-    }
+    let at = start_of(depth);
+    enter(&mut journal[at..at + Entry::WORDS], entry);
 }
 
 // PC moves, and flags are written.
@@ -70,7 +52,8 @@ pub(crate) fn moves(
     ensures { λ r. ⌜ ((cells : List ℕ) → advancedTo r (now (regs .exit)) cells (now (journal .exit))
         ≡ doneOf (movingOf m s) (stateWith (now (regs .entry)) s depth cells (now (journal .entry)))) ⌝ }
 {
-    enter(journal, depth, [regs[255], packed(s), 0, 0, 0, 0, 0, 0]);
+    let entry = entry_of(regs, s, Write::NONE, Write::NONE, Store::NONE, 0);
+    note(journal, depth, entry);
     regs[255] = m.pc;
     let after = regs[255];
     let settings = Settings {
@@ -78,7 +61,7 @@ pub(crate) fn moves(
         mask: s.mask,
         mode: s.mode,
     };
-    left_at(after, settings, depth, m.raised)
+    left_at(after, settings, depth, Answer::Onward, m.raised)
 }
 
 // Register n gets a value, and flags are written.
@@ -93,12 +76,14 @@ pub(crate) fn writes(
     ensures { λ r. ⌜ ((cells : List ℕ) → advancedTo r (now (regs .exit)) cells (now (journal .exit))
         ≡ doneOf (writingOf w s) (stateWith (now (regs .entry)) s depth cells (now (journal .entry)))) ⌝ }
 {
+    let a = Write {
+        used: true,
+        number: w.n,
+        value: w.value,
+    };
+    let entry = entry_of(regs, s, a, Write::NONE, Store::NONE, 0);
+    note(journal, depth, entry);
     let i = w.n as usize;
-    enter(
-        journal,
-        depth,
-        [regs[255], packed(s), w.n as u32, regs[i], 0, 0, 0, 1],
-    );
     regs[255] = w.pc;
     regs[i] = w.value;
     let after = regs[255];
@@ -107,7 +92,7 @@ pub(crate) fn writes(
         mask: s.mask,
         mode: s.mode,
     };
-    left_at(after, settings, depth, w.raised)
+    left_at(after, settings, depth, Answer::Onward, w.raised)
 }
 
 // A cell gets a value.
@@ -124,35 +109,35 @@ pub(crate) fn stores(
     ensures { λ r. ⌜ advancedTo r (now (regs .exit)) (now (cells .exit)) (now (journal .exit))
         ≡ doneOf (storingOf w s) (stateWith (now (regs .entry)) s depth (now (cells .entry)) (now (journal .entry))) ⌝ }
 {
-    let address = w.address;
-    let i = address as usize;
-    enter(
-        journal,
-        depth,
-        [regs[255], packed(s), 0, 0, 0, address, cells[i], 4],
-    );
+    let store = Store {
+        used: true,
+        address: w.address,
+        value: w.value,
+    };
+    let i = w.address as usize;
+    let entry = entry_of(regs, s, Write::NONE, Write::NONE, store, cells[i]);
+    note(journal, depth, entry);
     regs[255] = w.pc;
     cells[i] = w.value;
     let after = regs[255];
-    left_at(after, s, depth, 0)
+    left_at(after, s, depth, Answer::Onward, 0)
 }
 
 // The entry of a step that writes registers a and b.
-fn of_pair(regs: &[u32; 256], s: Settings, a: u8, b: u8) -> [u32; 8]
-    ensures { λ r. ⌜ r ≡ pairEntry (now (regs .entry)) s a b ⌝ }
+fn pair_entry(regs: &[u32; 256], s: Settings, w: Pairing) -> Entry
+    ensures { λ r. ⌜ r ≡ entryWith (now (regs .entry)) s (gets (w .a) (w .first)) (gets (w .b) (w .second)) noStore 0 ⌝ }
 {
-    let i = a as usize;
-    let j = b as usize;
-    [
-        regs[255],
-        packed(s),
-        a as u32 + 256 * (b as u32),
-        regs[i],
-        regs[j],
-        0,
-        0,
-        3,
-    ]
+    let a = Write {
+        used: true,
+        number: w.a,
+        value: w.first,
+    };
+    let b = Write {
+        used: true,
+        number: w.b,
+        value: w.second,
+    };
+    entry_of(regs, s, a, b, Store::NONE, 0)
 }
 
 // Register a and then register b get values.
@@ -167,14 +152,15 @@ pub(crate) fn splits(
     ensures { λ r. ⌜ ((cells : List ℕ) → advancedTo r (now (regs .exit)) cells (now (journal .exit))
         ≡ doneOf (splittingOf w s) (stateWith (now (regs .entry)) s depth cells (now (journal .entry)))) ⌝ }
 {
-    enter(journal, depth, of_pair(regs, s, w.a, w.b));
+    let entry = pair_entry(regs, s, w);
+    note(journal, depth, entry);
     let i = w.a as usize;
     let j = w.b as usize;
     regs[255] = w.pc;
     regs[i] = w.first;
     regs[j] = w.second;
     let after = regs[255];
-    left_at(after, s, depth, 0)
+    left_at(after, s, depth, Answer::Onward, 0)
 }
 
 // Register b and then register a get values.
@@ -189,14 +175,37 @@ pub(crate) fn swaps(
     ensures { λ r. ⌜ ((cells : List ℕ) → advancedTo r (now (regs .exit)) cells (now (journal .exit))
         ≡ doneOf (swappingOf w s) (stateWith (now (regs .entry)) s depth cells (now (journal .entry)))) ⌝ }
 {
-    enter(journal, depth, of_pair(regs, s, w.a, w.b));
+    let entry = pair_entry(regs, s, w);
+    note(journal, depth, entry);
     let i = w.a as usize;
     let j = w.b as usize;
     regs[255] = w.pc;
     regs[j] = w.second;
     regs[i] = w.first;
     let after = regs[255];
-    left_at(after, s, depth, 0)
+    left_at(after, s, depth, Answer::Onward, 0)
+}
+
+// Two register writes, one after the other, each made if it is used.
+fn put_both(regs: &mut [u32; 256], first: Write, second: Write)
+    ensures { λ r. ⌜ now (regs .exit) ≡ writesIn false first second (now (regs .entry)) ⌝ }
+{
+    write_register(regs, first.used, first.number, first.value);
+    write_register(regs, second.used, second.number, second.value);
+}
+
+// PC, then the two registers in the effect's order.
+fn write_regs(regs: &mut [u32; 256], e: Effect)
+    ensures { λ r. ⌜ now (regs .exit) ≡ regsAfter e (now (regs .entry)) ⌝ }
+{
+    regs[255] = e.pc;
+    let a = e.a;
+    let b = e.b;
+    if e.reversed {
+        put_both(regs, b, a);
+    } else {
+        put_both(regs, a, b);
+    }
 }
 
 // All that an effect says.
@@ -209,16 +218,16 @@ pub(crate) fn does(
     e: Effect,
 ) -> Advanced
     requires { ⌜ depth < capacityOf (now journal) ⌝ }
-    requires { ⌜ Stores e (now cells) ⌝ }
     ensures { λ r. ⌜ advancedTo r (now (regs .exit)) (now (cells .exit)) (now (journal .exit))
         ≡ doneOf e (stateWith (now (regs .entry)) s depth (now (cells .entry)) (now (journal .entry))) ⌝ }
 {
-    let settings = carry_out(regs, s, depth, cells, journal, e);
+    let store = e.store;
+    let old = read_cell(cells, store.address);
+    let entry = entry_of(regs, s, e.a, e.b, store, old);
+    note(journal, depth, entry);
+    write_regs(regs, e);
+    write_cell(cells, store.used, store.address, store.value);
     let after = regs[255];
-    let verdict = verdict_of(after, e);
-    Advanced {
-        settings,
-        depth: depth + 1,
-        verdict,
-    }
+    let answer = e.answer;
+    left_at(after, e.settings, depth, answer, e.raised)
 }

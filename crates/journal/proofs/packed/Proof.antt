@@ -1,7 +1,7 @@
 -- `journal::packed` meets its contract: the sum fits in 64 bits.
 -- Assumes nothing.
 use mathlib.Core.Path.{refl}
-use Rattle.journal.specs.Journal.{packedOf}
+use Rattle.journal.specs.Words.{packedOf}
 use borrow.Author.Needs.{needs}
 use Rattle.journal.proofs.packed.Statement.{statement}
 use Rattle.journal.proofs.packed.Tie as tie

@@ -1,67 +1,66 @@
--- `journal::take_back` meets its contract: the test picks the case, and an entry that is not damaged names registers.
+-- `journal::take_back` meets its contract: the tests pick the case, and an entry that is not damaged names registers.
 -- Assumes nothing.
 use mathlib.Core.Path.{sym, _∙_}
-use Rattle.journal.specs.Journal.{cellsBefore, settingsBefore, takenBack}
-use Rattle.journal.proofs.Damage.{packed}
+use borrow.Author.Tests.{lt-ltb, le-ltb, eq-eqb, ne-eqb}
+use Rattle.journal.specs.Journal.{cellsBefore, takenBack}
+use Rattle.journal.proofs.Damage.{numbered}
 use borrow.Author.Needs.{needs}
 use Rattle.journal.proofs.take_back.Statement.{statement}
 use Rattle.journal.proofs.take_back.Tie as tie
 
+returns : tie.Need-returns
+unfolding takenBack
+returns c = λ s. rw (eq-eqb _ _ (c .if1 .taken))
+
+start-of-requires : tie.Need-start-of-requires
+start-of-requires c κs = search needs
+
+returns-2 : tie.Need-returns-2
+unfolding takenBack
+returns-2 c = λ s. rw (ne-eqb _ _ (c .before .before .if1 .left), ← c .before .start-of .ensures, lt-ltb _ _ (c .if2 .taken))
+
+last-requires : tie.Need-last-requires
+last-requires c κs = search needs
+
 is-damaged-requires : tie.Need-is-damaged-requires
 is-damaged-requires c κs = search needs
 
-returns : tie.Need-returns
+returns-3 : tie.Need-returns-3
 unfolding takenBack
-returns c = λ s depth journal. rw (← c .before .is-damaged .ensures, c .if1 .taken)
-
-array-read-uses-store : tie.Need-array-read-uses-store
-array-read-uses-store c = search needs
+returns-3 c = λ s. rw (ne-eqb _ _ (c .before .before .before .before .before .if1 .left), ← c .before .before .before .before .start-of .ensures, le-ltb _ _ (c .before .before .before .if2 .left), ← c .before .before .last .ensures, ← c .before .is-damaged .ensures, c .if3 .taken)
 
 uses-store-requires : tie.Need-uses-store-requires
 uses-store-requires c κs = search needs
-
-array-read-write-cell : tie.Need-array-read-write-cell
-array-read-write-cell c = search needs
-
-array-read-write-cell-2 : tie.Need-array-read-write-cell-2
-array-read-write-cell-2 c = search needs
 
 write-cell-requires : tie.Need-write-cell-requires
 write-cell-requires c κs = search needs
 
 restore-regs-requires : tie.Need-restore-regs-requires
-restore-regs-requires c κs = packed _ _ (sym (c .before .before .before .before .before .before .before .is-damaged .ensures) ∙ c .before .before .before .before .before .before .if1 .left)
+restore-regs-requires c κs = numbered _ _ (sym (c .before .before .before .before .before .before .before .is-damaged .ensures) ∙ c .before .before .before .before .before .before .if3 .left)
 
-array-read-t17 : tie.Need-array-read-t17
-array-read-t17 c = search needs
-
-array-read-t14 : tie.Need-array-read-t14
-array-read-t14 c = search needs
-
-array-read-t30 : tie.Need-array-read-t30
-array-read-t30 c = search needs
+settings-before-requires : tie.Need-settings-before-requires
+settings-before-requires c κs = search needs
 
 same-length : tie.Need-same-length
 same-length c = search needs
 
-returns-2 : tie.Need-returns-2
-unfolding takenBack cellsBefore settingsBefore
-returns-2 c = λ s depth journal. rw (← c .before .before .before .before .before .before .before .before .is-damaged .ensures, c .before .before .before .before .before .before .before .if1 .left, c .restore-regs .ensures, c .before .before .before .before .write-cell .ensures, c .before .before .before .before .before .uses-store .ensures)
+returns-4 : tie.Need-returns-4
+unfolding takenBack cellsBefore
+returns-4 c = λ s. rw (ne-eqb _ _ (c .before .before .before .before .before .before .before .before .before .before .before .before .before .if1 .left), ← c .before .before .before .before .before .before .before .before .before .before .before .before .start-of .ensures, le-ltb _ _ (c .before .before .before .before .before .before .before .before .before .before .before .if2 .left), ← c .before .before .before .before .before .before .before .before .before .before .last .ensures, ← c .before .before .before .before .before .before .before .before .before .is-damaged .ensures, c .before .before .before .before .before .before .before .before .if3 .left, c .settings-before .ensures, c .before .restore-regs .ensures, c .before .before .before .before .before .write-cell .ensures, c .before .before .before .before .before .before .uses-store .ensures)
 
 pub take-back-spec : {M : Type 1} → statement M
 take-back-spec =
     tie.close
     (tie.spec
-    is-damaged-requires
     returns
-    array-read-uses-store
+    start-of-requires
+    returns-2
+    last-requires
+    is-damaged-requires
+    returns-3
     uses-store-requires
-    array-read-write-cell
-    array-read-write-cell-2
     write-cell-requires
     restore-regs-requires
-    array-read-t17
-    array-read-t14
-    array-read-t30
+    settings-before-requires
     same-length
-    returns-2)
+    returns-4)

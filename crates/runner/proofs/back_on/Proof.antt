@@ -5,10 +5,9 @@ use Prim.Native.Nat.{_-_}
 use native.Mathlib.Omega.{arith}
 use borrow.Author.Needs.{needs}
 use Rattle.machine.specs.declared.Stop.the-variants.{Done}
-use Rattle.journal.specs.declared.Returned.the-variants.{Back, Damaged}
+use Rattle.journal.specs.declared.Returned.the-variants.{Back, Damaged, Missing}
 use Rattle.machine.specs.State.{stateWith}
-use Rattle.step.proofs.Steps.{entries}
-use Rattle.runner.proofs.Returns.{as-told, deep, Returning, turn-round, over, at-start, again, breaks-off}
+use Rattle.runner.proofs.Returns.{as-told, deep, Returning, turn-round, over, again, breaks-off}
 use Rattle.runner.proofs.back_on.Statement.{statement}
 use Rattle.runner.proofs.back_on.Tie as tie
 
@@ -23,9 +22,6 @@ abbrev μ-loop : tie.MeasureT-loop
 loop-holds : tie.Need-loop-holds Inv-loop μ-loop
 loop-holds c = (refl, turn-round _ _ (c .before .before .before .before .pre))
 
-last-requires : tie.Need-last-requires Inv-loop μ-loop
-last-requires c κs = (deep _ (c .before .before .if1 .left), entries _ _ (c .before .before .before .before .loop .inv .1 .room))
-
 take-back-requires : tie.Need-take-back-requires Inv-loop μ-loop
 take-back-requires c κs = search needs
 
@@ -33,7 +29,8 @@ enum-known-returned : tie.Need-enum-known-returned Inv-loop μ-loop
 enum-known-returned c = search needs
 
 sub-depth : tie.Need-sub-depth Inv-loop μ-loop
-sub-depth c = deep _ (c .before .before .before .before .before .before .before .before .before .if1 .left)
+sub-depth c = let told : c .before .before .before .before .before .take-back .result ≡ Back (c .before .returned .given .0 .0) = search needs in
+    deep _ _ (as-told _ _ _ _ _ _ _ _ told (c .before .before .before .before .before .take-back .ensures (c .before .before .before .before .before .before .before .before .before .loop .settings))) refl
 
 add-undone : tie.Need-add-undone Inv-loop μ-loop
 add-undone c = omega arith
@@ -43,12 +40,15 @@ loop-less c = omega arith
 
 loop-again : tie.Need-loop-again Inv-loop μ-loop
 loop-again c = let told : c .before .before .before .before .before .take-back .result ≡ Back (c .before .returned .given .0 .0) = search needs in (
-  c .before .before .before .before .before .before .before .before .before .before .before .loop .inv .0,
-  again _ _ _ _ (c .before .before .before .before .before .before .before .before .before .before .before .loop .inv .1) (c .before .before .before .before .before .before .before .before .before .before .loop-test .taken) _ (deep _ (c .before .before .before .before .before .before .before .before .before .if1 .left)) (as-told _ _ _ _ _ _ _ _ _ _ told (c .before .before .before .before .before .before .last .ensures) (c .before .before .before .before .before .take-back .ensures _ _ _)) refl (omega arith) refl (search needs),
+  c .before .before .before .before .before .before .before .before .before .loop .inv .0,
+  again _ _ _ _ (c .before .before .before .before .before .before .before .before .before .loop .inv .1) (c .before .before .before .before .before .before .before .before .loop-test .taken) _ (as-told _ _ _ _ _ _ _ _ told (c .before .before .before .before .before .take-back .ensures _)) refl (omega arith) refl (search needs),
 )
 
 enum-told : tie.Need-enum-told Inv-loop μ-loop
 enum-told c = search needs
+
+enum-told-2 : tie.Need-enum-told-2 Inv-loop μ-loop
+enum-told-2 c = search needs
 
 same-length : tie.Need-same-length Inv-loop μ-loop
 same-length c = search needs
@@ -60,14 +60,15 @@ same-length-2 : tie.Need-same-length-2 Inv-loop μ-loop
 same-length-2 c = search needs
 
 returns-2 : tie.Need-returns-2 Inv-loop μ-loop
-returns-2 c = at-start _ _ _ _ (c .before .before .loop .inv .1) (c .before .loop-test .taken) (c .if1 .taken)
+returns-2 c = let told : c .before .before .before .before .take-back .result ≡ Missing = search needs in
+    breaks-off _ _ _ _ (c .before .before .before .before .before .before .before .before .loop .inv .1) (c .before .before .before .before .before .before .before .loop-test .taken) _ (as-told _ _ _ _ _ _ _ _ told (c .before .before .before .before .take-back .ensures _)) 8 refl
 
 same-length-3 : tie.Need-same-length-3 Inv-loop μ-loop
 same-length-3 c = search needs
 
 returns-3 : tie.Need-returns-3 Inv-loop μ-loop
 returns-3 c = let told : c .before .before .before .before .take-back .result ≡ Damaged = search needs in
-    breaks-off _ _ _ _ (c .before .before .before .before .before .before .before .before .before .before .loop .inv .1) (c .before .before .before .before .before .before .before .before .before .loop-test .taken) _ (deep _ (c .before .before .before .before .before .before .before .before .if1 .left)) (as-told _ _ _ _ _ _ _ _ _ _ told (c .before .before .before .before .before .last .ensures) (c .before .before .before .before .take-back .ensures _ _ _)) 9 refl
+    breaks-off _ _ _ _ (c .before .before .before .before .before .before .before .before .loop .inv .1) (c .before .before .before .before .before .before .before .loop-test .taken) _ (as-told _ _ _ _ _ _ _ _ told (c .before .before .before .before .take-back .ensures _)) 9 refl
 
 pub back-on-spec : {M : Type 1} → statement M
 back-on-spec =
@@ -76,7 +77,6 @@ back-on-spec =
     Inv-loop
     μ-loop
     loop-holds
-    last-requires
     take-back-requires
     enum-known-returned
     sub-depth
@@ -84,6 +84,7 @@ back-on-spec =
     loop-less
     loop-again
     enum-told
+    enum-told-2
     same-length
     returns
     same-length-2

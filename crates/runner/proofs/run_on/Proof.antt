@@ -7,7 +7,7 @@ use borrow.Author.Needs.{needs}
 use Rattle.machine.specs.declared.Stop.the-variants.{Done}
 use Rattle.step.specs.declared.Verdict.the-variants.{Stopped, Refused}
 use Rattle.machine.specs.State.{stateWith}
-use Rattle.step.specs.Step.{verdictOf}
+use Rattle.step.specs.Answers.{verdictOf}
 use Rattle.runner.proofs.Turns.{Underway, set-out, over, again, ends, breaks-off}
 use Rattle.runner.proofs.run_on.Statement.{statement}
 use Rattle.runner.proofs.run_on.Tie as tie

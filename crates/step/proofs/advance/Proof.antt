@@ -117,11 +117,7 @@ enum-known-considered-6 : tie.Need-enum-known-considered-6
 enum-known-considered-6 c = search needs
 
 does-requires : tie.Need-does-requires
-does-requires c κs = let k = c .before .before .before .before .before .before in
-    let x = c .before .before .before .before .considered6 .given .0 in
-    let told : k .consider .result ≡ Does (x .0) = search needs in
-    let safe = safe-does (state (start k)) (looked k) (x .0) (read-as _ _ (Does (x .0)) _ told (considering k)) in
-    (below k, λ u. safe .store u .1)
+does-requires c κs = below (c .before .before .before .before .before .before)
 
 same-length : tie.Need-same-length
 same-length c = search needs

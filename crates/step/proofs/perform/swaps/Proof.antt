@@ -2,16 +2,16 @@
 -- Assumes nothing.
 use Rattle.journal.specs.Journal.{regsAfter, settingsAfter, cellsAfter, entryOf}
 use Rattle.step.specs.Step.{courseOf}
-use Rattle.step.proofs.Steps.{room, few}
+use Rattle.step.proofs.Steps.{few}
 use borrow.Author.Needs.{needs}
 use Rattle.step.proofs.perform.swaps.Statement.{statement}
 use Rattle.step.proofs.perform.swaps.Tie as tie
 
-of-pair-requires : tie.Need-of-pair-requires
-of-pair-requires c κs = search needs
+pair-entry-requires : tie.Need-pair-entry-requires
+pair-entry-requires c κs = search needs
 
-enter-requires : tie.Need-enter-requires
-enter-requires c κs = room _ _ (c .before .before .before .before .pre)
+note-requires : tie.Need-note-requires
+note-requires c κs = search needs
 
 cast-i : tie.Need-cast-i
 cast-i c = search needs
@@ -45,14 +45,14 @@ same-length c = search needs
 
 returns : tie.Need-returns
 unfolding regsAfter settingsAfter cellsAfter entryOf courseOf
-returns c = λ cells. rw (c .left-at .ensures .0, c .left-at .ensures .1 .0, c .left-at .ensures .1 .1, c .before .before .before .before .before .before .enter .ensures, c .before .before .before .before .before .before .before .of-pair .ensures)
+returns c = λ cells. rw (c .left-at .ensures .0, c .left-at .ensures .1 .0, c .left-at .ensures .1 .1, c .before .before .before .before .before .before .note .ensures, c .before .before .before .before .before .before .before .before .pair-entry .ensures)
 
 pub swaps-spec : {M : Type 1} → statement M
 swaps-spec =
     tie.close
     (tie.spec
-    of-pair-requires
-    enter-requires
+    pair-entry-requires
+    note-requires
     cast-i
     cast-j
     element-write-regs

@@ -1,32 +1,20 @@
 -- `step::perform::writes` meets its contract: the entry and the writes are the definition's.
-use native.Mathlib.Nat.{add-zero}
+-- Assumes nothing.
 use Rattle.journal.specs.Journal.{regsAfter, settingsAfter, cellsAfter, entryOf}
 use Rattle.step.specs.Step.{courseOf}
-use Rattle.step.proofs.Steps.{room, few}
+use Rattle.step.proofs.Steps.{few}
 use borrow.Author.Needs.{needs}
 use Rattle.step.proofs.perform.writes.Statement.{statement}
 use Rattle.step.proofs.perform.writes.Tie as tie
 
+entry-of-requires : tie.Need-entry-of-requires
+entry-of-requires c κs = search needs
+
+note-requires : tie.Need-note-requires
+note-requires c κs = search needs
+
 cast-i : tie.Need-cast-i
 cast-i c = search needs
-
-element-copy-out-after : tie.Need-element-copy-out-after
-element-copy-out-after c = search needs
-
-packed-requires : tie.Need-packed-requires
-packed-requires c κs = search needs
-
-cast-t16 : tie.Need-cast-t16
-cast-t16 c = search needs
-
-mul-t17 : tie.Need-mul-t17
-mul-t17 c = search needs
-
-element-copy-out-t20 : tie.Need-element-copy-out-t20
-element-copy-out-t20 c = search needs
-
-enter-requires : tie.Need-enter-requires
-enter-requires c κs = room _ _ (c .before .before .before .before .before .before .before .pre)
 
 element-write-regs : tie.Need-element-write-regs
 element-write-regs c = search needs
@@ -37,34 +25,30 @@ mul-regs c = search needs
 element-write-regs-2 : tie.Need-element-write-regs-2
 element-write-regs-2 c = search needs
 
-element-copy-out-after-2 : tie.Need-element-copy-out-after-2
-element-copy-out-after-2 c = search needs
+element-copy-out-after : tie.Need-element-copy-out-after
+element-copy-out-after c = search needs
 
 left-at-requires : tie.Need-left-at-requires
-left-at-requires c κs = few _ _ (c .before .before .before .before .before .before .before .before .before .before .before .pre)
+left-at-requires c κs = few _ _ (c .before .before .before .before .before .before .before .before .before .pre)
 
 same-length : tie.Need-same-length
 same-length c = search needs
 
 returns : tie.Need-returns
 unfolding regsAfter settingsAfter cellsAfter entryOf courseOf
-returns c = λ cells. rw (c .left-at .ensures .0, c .left-at .ensures .1 .0, c .left-at .ensures .1 .1, c .before .before .before .before .enter .ensures, c .before .before .before .before .before .before .before .packed .ensures, add-zero)
+returns c = λ cells. rw (c .left-at .ensures .0, c .left-at .ensures .1 .0, c .left-at .ensures .1 .1, c .before .before .before .before .before .note .ensures, c .before .before .before .before .before .before .before .entry-of .ensures)
 
 pub writes-spec : {M : Type 1} → statement M
 writes-spec =
     tie.close
     (tie.spec
+    entry-of-requires
+    note-requires
     cast-i
-    element-copy-out-after
-    packed-requires
-    cast-t16
-    mul-t17
-    element-copy-out-t20
-    enter-requires
     element-write-regs
     mul-regs
     element-write-regs-2
-    element-copy-out-after-2
+    element-copy-out-after
     left-at-requires
     same-length
     returns)
