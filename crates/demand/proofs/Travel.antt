@@ -18,7 +18,7 @@ use Rattle.machine.specs.Stops.{Said, plainly}
 use Rattle.step.specs.Step.{Course, going, stopped, refused, actionIn, effectIn, refusalOf, moved, stepOf}
 use Rattle.runner.specs.Calls.{Out, stopAt, onward, runFrom, backFrom, checkOf, called, backOf}
 use Rattle.effect.proofs.Blind as blind
-use Rattle.step.proofs.Steps.{room}
+use Rattle.journal.proofs.Room.{room}
 use Rattle.step.proofs.Keeps.{clear, formed-in, lawful-after}
 use Rattle.machine.proofs.Lawful.{Lawful}
 use Rattle.journal.proofs.Undo.{Room, withJournal, intact-with, undo-with, up-to, last-known, earlier-known, lengths}

@@ -1,5 +1,6 @@
 pub mod Lists
 pub mod Words
 pub mod Damage
+pub mod Room
 pub mod Undo
 pub mod Named
