@@ -7,10 +7,12 @@ use mathlib.Core.Path.{_≡_, refl, sym, ap, _∙_}
 use mathlib.Core.Bool.{Bool, not}
 use mathlib.Core.Option.{Option, none, some}
 use mathlib.Core.List.{List, []}
+use lib.ListN.{getD}
 use Rattle.word.specs.declared.Operated.{Operated}
 use Rattle.half.specs.Half.{seOf, exOf}
 use Rattle.word.specs.Word.{askedOf, operatedBy}
 use Rattle.cell.specs.declared.Form.{Form}
+use Rattle.cell.specs.declared.Bits.{Bits}
 use Rattle.cell.specs.declared.Instruction.{Instruction}
 use Rattle.cell.specs.declared.Operands.{Operands}
 use Rattle.cell.specs.declared.Encoded.{Encoded}
@@ -38,9 +40,12 @@ use Rattle.machine.specs.declared.Machine.{Machine}
 use Rattle.runner.specs.declared.Ran.{Ran}
 use Rattle.machine.specs.declared.Stop.{Stop}
 use Rattle.machine.specs.State.{State, freshMachine, stateOf, stateWith, badCells, badSettings, entriesIn, writeIf}
+use Rattle.effect.specs.declared.Write.{Write}
+use Rattle.effect.specs.declared.Store.{Store}
 use Rattle.journal.specs.declared.Returned.{Returned}
-use Rattle.journal.specs.Words.{packedOf}
-use Rattle.journal.specs.Journal.{takenBack}
+use Rattle.journal.specs.declared.Entry.{Entry}
+use Rattle.journal.specs.Words.{packedOf, startOf, entryWith}
+use Rattle.journal.specs.Journal.{entered, takenBack}
 use Rattle.journal.specs.Answers.{returnedOf}
 use Rattle.journal.proofs.Named as returns
 use Rattle.step.specs.declared.Advanced.{Advanced}
@@ -79,6 +84,9 @@ operate-once opcode m l n flags r t = unique
 
 pub form-once : (opcode : ℕ) (r t : Form) → r ≡ cell.formOf opcode → t ≡ cell.formOf opcode → r ≡ t
 form-once opcode r t = unique
+
+pub bits-once : (c : ℕ) (r t : Bits) → r ≡ cell.bitsOf c → t ≡ cell.bitsOf c → r ≡ t
+bits-once c r t = unique
 
 pub decode-once : (c : ℕ) (r t : Instruction) → r ≡ cell.decodeOf c → t ≡ cell.decodeOf c → r ≡ t
 decode-once c r t = unique
@@ -135,6 +143,20 @@ capacity-once words r t = unique
 
 pub packed-once : (s : Settings) (r t : ℕ) → r ≡ packedOf s → t ≡ packedOf s → r ≡ t
 packed-once s r t = unique
+
+pub start-once : (depth r t : ℕ) → r ≡ startOf depth → t ≡ startOf depth → r ≡ t
+start-once depth r t = unique
+
+-- an entry, and the part of the journal that it was written into
+pub entry-once : (regs : List ℕ) (s : Settings) (a b : Write) (store : Store) (old : ℕ) (r t : Entry)
+    → r ≡ entryWith regs s a b store old → t ≡ entryWith regs s a b store old → r ≡ t
+entry-once regs s a b store old r t = unique
+
+pub enter-once : (before : List ℕ) (e : Entry) (after after' : List ℕ) → after ≡ entered before e → after' ≡ entered before e → after ≡ after'
+enter-once before e after after' = unique
+
+pub read-cell-once : (cells : List ℕ) (address r t : ℕ) → r ≡ getD cells address 0 → t ≡ getD cells address 0 → r ≡ t
+read-cell-once cells address r t = unique
 
 -- what a write leaves, to a register by `machine::put` and to a cell by `keep`
 pub write-once : (used : Bool) (before : List ℕ) (i v : ℕ) (after after' : List ℕ) → after ≡ writeIf used before i v → after' ≡ writeIf used before i v → after ≡ after'

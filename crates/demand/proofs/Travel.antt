@@ -19,7 +19,7 @@ use Rattle.step.specs.Step.{Course, going, stopped, refused, actionIn, effectIn
 use Rattle.runner.specs.Calls.{Out, stopAt, onward, runFrom, backFrom, checkIn, called, backOf}
 use Rattle.effect.proofs.Blind as blind
 use Rattle.step.specs.Steps.{steps}
-use Rattle.step.proofs.Steps.{room}
+use Rattle.journal.proofs.Room.{room}
 use Rattle.step.proofs.Keeps.{clear, formed-in, lawful-after}
 use Rattle.machine.specs.Lawful.{Lawful}
 use Rattle.journal.proofs.Undo.{Room, withJournal, intact-with, undo-with, up-to, last-known, earlier-known, lengths}

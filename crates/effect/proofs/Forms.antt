@@ -1,7 +1,7 @@
 -- An instruction follows `form_of`: a reserved opcode, and no other, takes the illegal road.
 -- Assumes nothing.
 use Prim.Native.Nat.{ℕ, _^_, _<_}
-use mathlib.Core.Path.{_≡_, refl, ap, _∙_}
+use mathlib.Core.Path.{_≡_, refl}
 use mathlib.Core.Bool.{Bool, true, false, not, _||_}
 use native.Mathlib.Omega.{arith}
 use Rattle.word.specs.Word.{opOf, askedOf}

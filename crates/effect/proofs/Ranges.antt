@@ -1,13 +1,11 @@
 -- Every effect names registers 0 to 255 and holds 32-bit numbers, given registers, cells and settings that do.
 -- Assumes nothing.
-use Prim.Native.Nat.{ℕ, _+_, _*_, _/_, _%_, _^_, _<_}
-use mathlib.Core.Bool.{true, cond, _||_}
-use mathlib.Core.List.{List}
+use Prim.Native.Nat.{ℕ, _/_, _%_, _^_, _<_}
+use mathlib.Core.Bool.{cond, _||_}
 use native.Mathlib.Omega.{arith}
 use lib.Dec.{ltb, eqb}
 use lib.ListN.{getD}
-use Rattle.word.specs.Operation.{Asked, Given, Turned, Other, Op}
-use Rattle.half.specs.Half.{seOf, exOf}
+use Rattle.word.specs.Operation.{Asked, Given, Turned, Other}
 use Rattle.word.specs.Word.{askedOf}
 use Rattle.word.proofs.Bounds.{value-below}
 use Rattle.half.proofs.Bounds.{se-below, ex-below}

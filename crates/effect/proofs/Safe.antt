@@ -3,17 +3,16 @@
 use Prim.Native.Nat.{ℕ, _-_, _^_, _≤_, _<_}
 use mathlib.Core.Path.{_≡_, refl}
 use mathlib.Core.Bool.{Bool, true, false, cond, _||_}
-use mathlib.Core.Option.{Option, none, some}
+use mathlib.Core.Option.{none, some}
 use native.Mathlib.Omega.{arith}
 use lib.Bits.{bitAnd, and-le-l, or-lt}
 use lib.Dec.{eqb}
 use lib.ListN.{length}
 use borrow.Author.Tests.{leb-false, eqb-true, eqb-false}
-use Rattle.word.specs.Operation.{Op}
 use Rattle.word.proofs.Bounds.{raised-below}
 use Rattle.machine.specs.declared.Settings.{Settings}
 use Rattle.machine.specs.State.{State, firstSpecial, InRange}
-use Rattle.machine.proofs.Tests.{picked, or-left, or-right}
+use Rattle.machine.proofs.Tests.{picked, or-right}
 use Rattle.effect.specs.declared.Effect.{Effect}
 use Rattle.effect.specs.Action.{Action, Cpswp, Ldst, Put, Operate, Split, Bz, Int, Float, Illegal}
 use Rattle.effect.specs.Operands.{reg, maskAddress, modeAddress}

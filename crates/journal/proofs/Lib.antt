@@ -1,6 +1,7 @@
 pub mod Lists
 pub mod Words
 pub mod Damage
+pub mod Room
 pub mod Undo
 pub mod Named
 pub mod Undoing

@@ -13,7 +13,7 @@ use machine::Settings;
 use machine::write_cell;
 use machine::write_register;
 
-// An entry: its fields are words 0 to 7. Values are from before the step, and unused parts are 0.
+// An entry: its fields are words 0 to 7. They hold what the step found, and 0 where it had no such part.
 pub struct Entry {
     pub pc: u32,
     pub settings: u32,
@@ -23,7 +23,7 @@ pub struct Entry {
     pub b: u32,
     pub address: u32,
     pub old: u32,
-    // 1 for a, plus 2 for b, plus 4 for a store to memory
+    // which of a, b and a stored cell there are: 1, 2 and 4, added
     pub uses: u32,
 }
 
@@ -32,7 +32,7 @@ impl Entry {
     pub const WORDS: usize = 8;
 }
 
-// Word 1 is flags + 512 mask + 2^18 mode, and of an entry below 2^20.
+// The settings' word has the flags lowest, then the mask, then the mode; of settings in range it is below 2^20.
 const MODE_UNIT: u32 = Settings::FLAGS_BOUND * Settings::FLAGS_BOUND;
 
 const PACKED_BOUND: u32 = MODE_UNIT * Settings::MODE_BOUND;

@@ -15,7 +15,7 @@ use Rattle.journal.specs.declared.Returned.{Returned}
 use Rattle.machine.specs.State.{State, capacityOf}
 use Rattle.journal.specs.Journal.{lastOf, damagedOf, undoOf, Gone, takenBack}
 use Rattle.journal.specs.Answers.{returnedOf}
-use Rattle.step.proofs.Steps.{entries}
+use Rattle.journal.proofs.Room.{entries}
 use Rattle.machine.specs.Stops.{plainly}
 use Rattle.runner.proofs.Turns.{left}
 use Rattle.runner.specs.Calls.{Out, stopAt, backFrom}

@@ -139,7 +139,7 @@ pub fn run(m: Machine, cells: &mut [u32], journal: &mut [u32], budget: u64) -> R
     }
 }
 
-// A step is a run of budget 1.
+// One step: a run that has no more to do.
 pub fn step(m: Machine, cells: &mut [u32], journal: &mut [u32]) -> Ran
     ensures { λ r. ⌜ outOf r (now (cells .exit)) (now (journal .exit)) ≡ runOf 1 (stateOf m (now (cells .entry)) (now (journal .entry))) ⌝ }
 {

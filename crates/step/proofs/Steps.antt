@@ -1,12 +1,9 @@
 -- What one step is, test by test: the stop that refuses it, or the effect that is carried out.
 -- Assumes nothing.
-use Prim.Native.Nat.{ℕ, _+_, _*_, _≤_, _<_}
+use Prim.Native.Nat.{ℕ, _≤_, _<_}
 use mathlib.Core.Path.{_≡_, refl, sym, _∙_}
-use mathlib.Core.Bool.{cond}
-use mathlib.Core.List.{List}
 use mathlib.Core.Option.{Option, none, some}
 use native.Mathlib.Omega.{arith}
-use lib.Dec.{leb}
 use lib.ListN.{length}
 use borrow.Author.Tests.{lt-leb, le-leb}
 use Rattle.effect.specs.declared.Effect.{Effect}
@@ -14,12 +11,11 @@ use Rattle.effect.specs.declared.Answer.{Answer}
 use Rattle.effect.specs.declared.Answer.the-variants.{Onward, Interrupt}
 use Rattle.machine.specs.declared.Settings.{Settings}
 use Rattle.effect.specs.declared.instruction.Considered.{Considered}
-use Rattle.machine.specs.State.{State, capacityOf, entriesIn, firstSpecial, pcOf}
-use Rattle.journal.specs.Journal.{applyOf}
+use Rattle.machine.specs.State.{State, capacityOf, firstSpecial, pcOf}
 use Rattle.effect.specs.Refusal.{refusedBy}
-use Rattle.step.specs.Step.{actionIn, refusalOf, effectIn, Course, refused, stopped, answered, courseOf, stepOf}
+use Rattle.step.specs.Step.{actionIn, refusalOf, effectIn, refused, answered, stepOf}
 use Rattle.machine.specs.Stops.{plainly}
-use Rattle.step.specs.Inner.{doneOf, answeredBy, courseBy}
+use Rattle.step.specs.Inner.{doneOf, answeredBy}
 use Rattle.effect.specs.Inner.{Told, does, told, meant, toldOf}
 use Rattle.effect.proofs.Safe.{Safe, safe}
 
@@ -54,19 +50,6 @@ module _ (s : State) where
       pub looked-at : s .depth < capacityOf (s .journal) → refusalOf s ≡ refusedBy (actionIn s) s
       unfolding refusalOf
       looked-at h = rw (lt-leb _ _ on, lt-leb _ _ within, lt-leb _ _ h)
-
--- below J there is room for an entry, and J entries are within the journal
-pub room : (journal : List ℕ) (depth : ℕ) → depth < capacityOf journal → 8 * (depth + 1) ≤ length journal
-unfolding capacityOf entriesIn
-room journal depth h = omega arith
-
-pub few : (journal : List ℕ) (depth : ℕ) → depth < capacityOf journal → depth < 65536
-unfolding capacityOf entriesIn
-few journal depth h = omega arith
-
-pub entries : (journal : List ℕ) (depth : ℕ) → depth ≤ capacityOf journal → 8 * depth ≤ length journal
-unfolding capacityOf entriesIn
-entries journal depth h = omega arith
 
 -- what was considered, by the case that it is
 pub read-as : (s : Settings) (r x : Considered) (y : Told) → r ≡ x → meant s r ≡ y → meant s x ≡ y

@@ -1,10 +1,8 @@
 -- `step::advance` meets its contract: at each return the tests that led there are those before a step, in their order; what was considered tells the rest.
-use mathlib.Core.Bool.{true, false}
 use Rattle.effect.specs.Inner.{movingOf, writingOf, storingOf, splittingOf, swappingOf, meant, toldOf}
 use Rattle.step.proofs.Steps.{read-as, refused-with, at-end, off-cells, full, looked-at, refused-by, safe-does, does-step}
 use mathlib.Core.Path.{_≡_, refl, _∙_}
 use Prim.Native.Nat.{_<_}
-use lib.ListN.{length}
 use Rattle.machine.specs.State.{State, capacityOf, stateWith}
 use Rattle.effect.specs.declared.instruction.Considered.the-variants.{Float, Fault, Still, Writes, Stores, Splits, Swaps, Does}
 use Rattle.machine.proofs.Checks.{has-room, no-room}

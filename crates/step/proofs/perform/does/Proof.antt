@@ -2,7 +2,8 @@
 -- Assumes nothing.
 use Rattle.journal.specs.Journal.{settingsAfter, cellsAfter, entryOf}
 use Rattle.step.specs.Step.{courseOf}
-use Rattle.step.proofs.Steps.{few, answered-by}
+use Rattle.journal.proofs.Room.{few}
+use Rattle.step.proofs.Steps.{answered-by}
 use borrow.Author.Needs.{needs}
 use Rattle.step.proofs.perform.does.Statement.{statement}
 use Rattle.step.proofs.perform.does.Tie as tie

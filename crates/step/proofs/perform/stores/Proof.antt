@@ -2,7 +2,7 @@
 -- Assumes nothing.
 use Rattle.journal.specs.Journal.{regsAfter, settingsAfter, cellsAfter, entryOf}
 use Rattle.step.specs.Step.{courseOf}
-use Rattle.step.proofs.Steps.{few}
+use Rattle.journal.proofs.Room.{few}
 use borrow.Author.Needs.{needs}
 use Rattle.step.proofs.perform.stores.Statement.{statement}
 use Rattle.step.proofs.perform.stores.Tie as tie
