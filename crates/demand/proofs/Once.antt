@@ -35,7 +35,8 @@ use Rattle.reader.proofs.RoundTrip as trips
 use Rattle.machine.specs.declared.Settings.{Settings}
 use Rattle.effect.specs.declared.instruction.Considered.{Considered}
 use Rattle.effect.specs.Action.{actionOf}
-use Rattle.effect.specs.Inner.{meant, toldOf}
+use Rattle.effect.specs.Becomes.{becameOf}
+use Rattle.effect.specs.Answers.{meant}
 use Rattle.machine.specs.declared.Machine.{Machine}
 use Rattle.runner.specs.declared.Ran.{Ran}
 use Rattle.machine.specs.declared.Stop.{Stop}
@@ -121,8 +122,8 @@ read-once = trips.read-once
 
 -- the stop or the effect, whether it is said in short or at length
 pub consider-once : (c : ℕ) (regs cells : List ℕ) (s : Settings) (r t : Considered)
-    → ((depth : ℕ) (journal : List ℕ) → meant s r ≡ toldOf (actionOf (cell.decodeOf c)) (stateWith regs s depth cells journal))
-    → ((depth : ℕ) (journal : List ℕ) → meant s t ≡ toldOf (actionOf (cell.decodeOf c)) (stateWith regs s depth cells journal)) → meant s r ≡ meant s t
+    → ((depth : ℕ) (journal : List ℕ) → meant s r ≡ becameOf (actionOf (cell.decodeOf c)) (stateWith regs s depth cells journal))
+    → ((depth : ℕ) (journal : List ℕ) → meant s t ≡ becameOf (actionOf (cell.decodeOf c)) (stateWith regs s depth cells journal)) → meant s r ≡ meant s t
 consider-once c regs cells s r t p q = unique (p 0 []) (q 0 [])
 
 pub fresh-once : (r t : Machine) → r ≡ freshMachine → t ≡ freshMachine → r ≡ t
@@ -203,11 +204,11 @@ answer-said (Refused why offset) = rw (heard-number why)
 loaded-with : (r : Loaded) (cells : List ℕ) → loaded (loadWith r cells) ≡ r
 loaded-with r cells = rw (answer-said (r .answer))
 
-abbrev told : Option Refusal → ℕ → Saved
-told none size = save.Written size
-told (some why) size = save.Unsaved why
+abbrev became : Option Refusal → ℕ → Saved
+became none size = save.Written size
+became (some why) size = save.Unsaved why
 
-saved-with : (r : Saved) (room : List ℕ) → told (heard (saveWith r room .number)) (saveWith r room .length) ≡ r
+saved-with : (r : Saved) (room : List ℕ) → became (heard (saveWith r room .number)) (saveWith r room .length) ≡ r
 saved-with (save.Written n) room = refl
 saved-with (save.Unsaved why) room = rw (heard-number why)
 
@@ -225,4 +226,4 @@ pub save-once : (m : Machine) (cells before : List ℕ) (r t : Saved) (room room
     → saveWith t room' ≡ saving.saveOf m cells before → (r ≡ t) × (room ≡ room')
 save-once m cells before r t room room' p q =
     let e = unique p q in
-    (sym (saved-with r room) ∙ ap (λ (s : saving.Save). told (heard (s .number)) (s .length)) e ∙ saved-with t room', sym (room-with r room) ∙ ap (λ (s : saving.Save). s .room) e ∙ room-with t room')
+    (sym (saved-with r room) ∙ ap (λ (s : saving.Save). became (heard (s .number)) (s .length)) e ∙ saved-with t room', sym (room-with r room) ∙ ap (λ (s : saving.Save). s .room) e ∙ room-with t room')

@@ -20,7 +20,7 @@ use Rattle.reader.specs.Answers.{readReply}
 use Rattle.machine.proofs.Tests.{picked}
 use Rattle.machine.specs.declared.Machine.{Machine}
 use Rattle.machine.specs.State.{badCells, badSettings}
-use Rattle.job.specs.Job.{Fate, refused, last, onward, Notice, refusalFrom, refusalIn, loadedBy, loadOf, fateOf, payloadFate, kindOf, sizeOf, payloadOf, knownOf, fitsOf, inOrder, withinOf, settingsFit, endsOf, pastOf, passed, followed, endOf, nothingYet}
+use Rattle.job.specs.Job.{Fate, refused, last, further, Notice, refusalFrom, refusalIn, loadedBy, loadOf, fateOf, payloadFate, kindOf, sizeOf, payloadOf, knownOf, fitsOf, inOrder, withinOf, settingsFit, endsOf, pastOf, passed, followed, afterEnd, nothingYet}
 use Rattle.saver.specs.Saving.{Save, savedOf, saveOf}
 use Rattle.demand.specs.Demands.{listed, encodeSays, printSays, readSays, loadSays, saveSays}
 
@@ -48,7 +48,7 @@ read-said NoLine = refl
 abbrev Fine : Fate → Type 0
 Fine (refused k) = listed loadSays k ≡ true
 Fine last = Prim.Unit {0}
-Fine (onward size past) = Prim.Unit {0}
+Fine (further size past) = Prim.Unit {0}
 
 passed-fine : (t : Bool) (past : _) (size : ℕ) → Fine (passed t past size)
 passed-fine true past size = tt
@@ -74,7 +74,7 @@ abbrev Listed : Option Notice → Type 0
 Listed none = Prim.Unit {0}
 Listed (some said) = listed loadSays (said .number) ≡ true
 
-end-listed : (more offset : ℕ) → Listed (endOf more offset)
+end-listed : (more offset : ℕ) → Listed (afterEnd more offset)
 unfolding listed
 end-listed zero offset = tt
 end-listed (suc more) offset = refl
@@ -83,7 +83,7 @@ followed-listed : (rest : List ℕ → ℕ → _ → Option Notice) → ((left :
     → (c : Fate) → Fine c → (left : List ℕ) (offset : ℕ) → Listed (followed rest c left offset)
 followed-listed rest f (refused k) h left offset = h
 followed-listed rest f last h left offset = end-listed (length left - 6) (offset + 6)
-followed-listed rest f (onward size past) h left offset = f (drop size left) (offset + size) past
+followed-listed rest f (further size past) h left offset = f (drop size left) (offset + size) past
 
 from-listed : (n m : ℕ) (left : List ℕ) (offset : ℕ) (past : _) → Listed (refusalFrom n m left offset past)
 unfolding refusalFrom listed

@@ -12,7 +12,7 @@ use Rattle.machine.specs.Stops.{Said, plainly}
 use Rattle.step.specs.Step.{Course, going, stopped, refused, stepOf}
 use Rattle.step.specs.Steps.{steps, courseAfter}
 use Rattle.step.proofs.Repeats.{steps-none, steps-first}
-use Rattle.runner.specs.Calls.{Out, onward, runFrom, checkIn, runOf}
+use Rattle.runner.specs.Calls.{Out, goOn, runFrom, checkIn, runOf}
 use Rattle.runner.proofs.Counts.{step-refused, run-count}
 use Rattle.demand.specs.Demands.{listed, runStops, GoesOn, Ends, spent, last, next, Repeated, Called}
 use Rattle.demand.proofs.Stops.{stepStops, Fine, step-fine, widen, not-zero, call-said}
@@ -46,7 +46,7 @@ record Far (n k : ℕ) (s : State) (o : Out) : Type 0 where
 
 one-far : (c : Course) (n k : ℕ) (s : State) (rest : ℕ → State → Out) → stepOf s .course ≡ c
     → ((x : Said) → c ≡ refused x → stepOf s .state ≡ s)
-    → ((j : ℕ) (t : State) → Far n j t (rest j t)) → Far (suc n) k s (onward rest c k (stepOf s .state))
+    → ((j : ℕ) (t : State) → Far n j t (rest j t)) → Far (suc n) k s (goOn rest c k (stepOf s .state))
 one-far going n k s rest e r g =
     let w = g (k + 1) (stepOf s .state) in
     record {

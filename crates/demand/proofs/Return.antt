@@ -13,7 +13,7 @@ use borrow.Author.Tests.{eqb-true, eqb-false}
 use Rattle.machine.specs.State.{State}
 use Rattle.machine.specs.Stops.{Said, plainly}
 use Rattle.journal.specs.Journal.{undoOf}
-use Rattle.journal.specs.Undos.{undos, damagedIn, Sound}
+use Rattle.journal.specs.Undos.{undos, damagedIn, Undoable}
 use Rattle.journal.proofs.Undoing.{undos-none, undos-first}
 use Rattle.runner.specs.Calls.{Out, stopAt, backFrom, checkIn, backOf}
 use Rattle.runner.proofs.Counts.{back-count}
@@ -21,14 +21,14 @@ use Rattle.demand.specs.Demands.{listed, backStops, FallsOn, Falls, spen
 use Rattle.demand.proofs.Stops.{call-said}
 use Rattle.demand.proofs.Outcome.{first, same-out, call-holds, call-once}
 
-on-from : (k : ℕ) (s : State) → Sound s → FallsOn k (undoOf s) → FallsOn (suc k) s
+on-from : (k : ℕ) (s : State) → Undoable s → FallsOn k (undoOf s) → FallsOn (suc k) s
 on-from k s e g zero h = rw (undos-none s) e
 on-from k s e g (suc j) h = rw (undos-first j s) (g j (omega arith))
 
 none-yet : (s : State) → FallsOn 0 s
 none-yet s j h = absurd (omega arith)
 
-later : (n : ℕ) (s : State) (f : ℕ) (x : Said) → Sound s → Falls n (undoOf s) f x → Falls (suc n) s (suc f) x
+later : (n : ℕ) (s : State) (f : ℕ) (x : Said) → Undoable s → Falls n (undoOf s) f x → Falls (suc n) s (suc f) x
 later n s f x e (spent g) = spent (on-from n s e g)
 later n s f x e (start k h g d) = start (suc k) (omega arith) (on-from k s e g) (rw (undos-first k s) d)
 later n s f x e (damaged k h g d c) = damaged (suc k) (omega arith) (on-from k s e g) (rw (undos-first k s) d) (rw (undos-first k s) c)
@@ -98,15 +98,15 @@ falls-once (spent a) (damaged l i b d e) = absurd (not-whole e (a l i .whole))
 falls-once (start k h a c) (spent b) = absurd (b k h .some c)
 falls-once (damaged k h a c e) (spent b) = absurd (not-whole e (b k h .whole))
 falls-once {s = s} (start k h a c) (start l i b d) =
-    (first (λ j. Sound (undos j s)) k l a b (λ z. z .some c) (λ z. z .some d), refl)
+    (first (λ j. Undoable (undos j s)) k l a b (λ z. z .some c) (λ z. z .some d), refl)
 falls-once {s = s} (start k h a c) (damaged l i b d e) =
-    let q = first (λ j. Sound (undos j s)) k l a b (λ z. z .some c) (λ z. not-whole e (z .whole)) in
+    let q = first (λ j. Undoable (undos j s)) k l a b (λ z. z .some c) (λ z. not-whole e (z .whole)) in
     absurd (d (ap (λ (j : ℕ). undos j s .depth) (sym q) ∙ c))
 falls-once {s = s} (damaged k h a c e) (start l i b d) =
-    let q = first (λ j. Sound (undos j s)) k l a b (λ z. not-whole e (z .whole)) (λ z. z .some d) in
+    let q = first (λ j. Undoable (undos j s)) k l a b (λ z. not-whole e (z .whole)) (λ z. z .some d) in
     absurd (c (ap (λ (j : ℕ). undos j s .depth) q ∙ d))
 falls-once {s = s} (damaged k h a c e) (damaged l i b d f) =
-    (first (λ j. Sound (undos j s)) k l a b (λ z. not-whole e (z .whole)) (λ z. not-whole f (z .whole)), refl)
+    (first (λ j. Undoable (undos j s)) k l a b (λ z. not-whole e (z .whole)) (λ z. not-whole f (z .whole)), refl)
 
 returned-once : (n : ℕ) (s : State) (o p : Out) → Returned n s o → Returned n s p → o ≡ p
 returned-once n s o p a b =

@@ -16,7 +16,7 @@ use Rattle.machine.specs.State.{State, mostCells, capacityOf}
 use Rattle.journal.specs.Journal.{applyOf, lastOf, damagedOf, undoOf}
 use Rattle.machine.specs.Stops.{Said, plainly}
 use Rattle.step.specs.Step.{Course, going, stopped, refused, actionIn, effectIn, refusalOf, moved, stepOf}
-use Rattle.runner.specs.Calls.{Out, stopAt, onward, runFrom, backFrom, checkIn, called, backOf}
+use Rattle.runner.specs.Calls.{Out, stopAt, goOn, runFrom, backFrom, checkIn, called, backOf}
 use Rattle.effect.proofs.Blind as blind
 use Rattle.step.specs.Steps.{steps}
 use Rattle.journal.proofs.Room.{room}
@@ -157,7 +157,7 @@ module _ (s₀ : State) (lawful₀ : Lawful s₀) (empty : s₀ .depth ≡ 0) wh
   -- a run, of which k steps were done before
   ran : (rest : ℕ → State → Out) (c : Course) (k a b : ℕ) (s : State) → Reached s (a + k + done c) b
       → ((j : ℕ) (t : State) → Reached t (a + j) b → Reached (rest j t .state) (a + rest j t .count) b)
-      → Reached (onward rest c k s .state) (a + onward rest c k s .count) b
+      → Reached (goOn rest c k s .state) (a + goOn rest c k s .count) b
   ran rest going k a b s r f = f (k + 1) s (rw (← add-assoc a k 1) r)
   ran rest (stopped x) k a b s r f = rw (← add-assoc a k 1) r
   ran rest (refused x) k a b s r f = rw add-zero at r

@@ -8,7 +8,7 @@ use mathlib.Core.List.{List, [], _∷_}
 use lib.Dec.{eqb}
 use Rattle.machine.specs.State.{State}
 use Rattle.machine.specs.Stops.{Said, plainly}
-use Rattle.journal.specs.Undos.{undos, damagedIn, Sound}
+use Rattle.journal.specs.Undos.{undos, damagedIn, Undoable}
 use Rattle.step.specs.Step.{going, stopped, refused}
 use Rattle.step.specs.Steps.{steps, courseAfter}
 use Rattle.runner.specs.Calls.{Out, stopAt, checkIn}
@@ -68,7 +68,7 @@ pub record Repeated (n : ℕ) (s : State) (o : Out) : Type 0 where
 
 -- each of the first k steps back finds a step to take back, and an entry that can be one
 abbrev pub FallsOn : ℕ → State → Type 0
-FallsOn k s = (j : ℕ) → j < k → Sound (undos j s)
+FallsOn k s = (j : ℕ) → j < k → Undoable (undos j s)
 
 -- When a going back by n from s ends, with how many steps taken back, and what it says.
 pub data Falls (n : ℕ) (s : State) : ℕ → Said → Type 0 where

@@ -19,7 +19,8 @@ use Rattle.effect.specs.Operands.{nextOf, reg}
 use Rattle.effect.specs.Parts.{onward, still, _then_, gain}
 use Rattle.effect.specs.Effect.{effectOf}
 use Rattle.effect.specs.Refusal.{refusedBy}
-use Rattle.effect.specs.Inner.{does, toldOf, takesImm, remaining, ldstBy, transferBy}
+use Rattle.effect.specs.Becomes.{does, becameOf}
+use Rattle.effect.specs.Inner.{takesImm, remaining, ldstBy, transferBy}
 
 -- a cell whose opcode is k, in k's form
 registers-at : (c k : ℕ) → opcodeOf c ≡ k → formOf k ≡ form.Registers → decodeOf c ≡ Registers k (nOf c) (mOf c) (lOf c)
@@ -77,12 +78,12 @@ module _ (c : ℕ) where
 
 -- LDST and BZ, as the code comes to them
 module _ (c : ℕ) (s : State) where
-  pub transfers : opcodeOf c ≡ 1 → transferBy (nOf c) (reg s (nOf c)) (reg s (mOf c)) (reg s (lOf c)) (s .settings) (s .cells) (still s) ≡ toldOf (actionOf (decodeOf c)) s
-  unfolding toldOf refusedBy effectOf transferBy ldstBy
+  pub transfers : opcodeOf c ≡ 1 → transferBy (nOf c) (reg s (nOf c)) (reg s (mOf c)) (reg s (lOf c)) (s .settings) (s .cells) (still s) ≡ becameOf (actionOf (decodeOf c)) s
+  unfolding becameOf refusedBy effectOf transferBy ldstBy
   transfers e = rw (ldst c e)
 
-  pub branches : opcodeOf c ≡ 121 → does (onward (cond (eqb (reg s (nOf c)) 0) (wrap (nextOf (s .regs) + seOf (immOf c))) (nextOf (s .regs))) (s .settings)) ≡ toldOf (actionOf (decodeOf c)) s
-  unfolding toldOf refusedBy effectOf
+  pub branches : opcodeOf c ≡ 121 → does (onward (cond (eqb (reg s (nOf c)) 0) (wrap (nextOf (s .regs) + seOf (immOf c))) (nextOf (s .regs))) (s .settings)) ≡ becameOf (actionOf (decodeOf c)) s
+  unfolding becameOf refusedBy effectOf
   branches e = rw (bz c e) (go (eqb (reg s (nOf c)) 0))
     where
       go : (t : Bool) → does (onward (cond t (wrap (nextOf (s .regs) + seOf (immOf c))) (nextOf (s .regs))) (s .settings)) ≡ does (cond t (still s then gain (seOf (immOf c))) (still s))
@@ -134,8 +135,8 @@ leftOf x c = cond (floats x) Float (operation (askedOf x) (nOf c) (firstOf (take
 module _ (s : State) (n m l i : ℕ) where
   both : (a : Asked) (imm float : Bool) → not (asks a && float) ≡ true
       → remaining (operatedBy a (cond imm (reg s n) (reg s m)) (cond imm (seOf i) (reg s l)) (reg s n) (s .settings .flags)) float n (still s)
-      ≡ toldOf (cond float Float (operation a n (firstOf imm n m) (secondOf imm i l))) s
-  unfolding operatedBy toldOf refusedBy effectOf
+      ≡ becameOf (cond float Float (operation a n (firstOf imm n m) (secondOf imm i l))) s
+  unfolding operatedBy becameOf refusedBy effectOf
   both (Given op) true true h = never (cc)
   both (Given op) false true h = never (cc)
   both (Given op) true false h = refl
@@ -172,7 +173,7 @@ module _ (c : ℕ) (fits : c < 2 ^ 32)
 
   pub all-others : (s : State)
       → remaining (operatedBy (askedOf (opcodeOf c)) (cond (takesImm (opcodeOf c)) (reg s (nOf c)) (reg s (mOf c))) (cond (takesImm (opcodeOf c)) (seOf (immOf c)) (reg s (lOf c))) (reg s (nOf c)) (s .settings .flags)) (floats (opcodeOf c)) (nOf c) (still s)
-      ≡ toldOf (actionOf (decodeOf c)) s
+      ≡ becameOf (actionOf (decodeOf c)) s
   all-others s =
       let form-fits = both-left (sorted (formOf (opcodeOf c)) (takesImm (opcodeOf c)) (floats (opcodeOf c)) (asks (askedOf (opcodeOf c)))) (not (asks (askedOf (opcodeOf c)) && floats (opcodeOf c))) rightly in
       let alone = both-right (sorted (formOf (opcodeOf c)) (takesImm (opcodeOf c)) (floats (opcodeOf c)) (asks (askedOf (opcodeOf c)))) (not (asks (askedOf (opcodeOf c)) && floats (opcodeOf c))) rightly in

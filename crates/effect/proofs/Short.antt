@@ -15,7 +15,8 @@ use Rattle.effect.specs.Operands.{modeAddress, maskAddress, behind}
 use Rattle.effect.specs.Parts.{noWrite, onward, _then_, writeA, writeCell, store as storeAt, load as loadAt}
 use Rattle.effect.specs.Effect.{illegalLoad, illegalStore}
 use Rattle.effect.specs.Refusal.{faults}
-use Rattle.effect.specs.Inner.{does, loadedOf, storedOf, settingsOf, ldstBy, transferBy}
+use Rattle.effect.specs.Becomes.{does}
+use Rattle.effect.specs.Inner.{loadedOf, storedOf, settingsOf, ldstBy, transferBy}
 
 -- LDST that is legal, part by part
 module _ (n rn rm rl v pc : ℕ) (s : Settings) (legal : illegalStore rm rn ≡ false) where

@@ -3,4 +3,6 @@ pub mod Operands
 pub mod Parts
 pub mod Effect
 pub mod Refusal
+pub mod Becomes
+pub mod Answers
 pub mod Inner

@@ -13,7 +13,9 @@ ghost use Rattle.effect.specs.Action.{floats, actionOf};
 ghost use Rattle.effect.specs.Operands.{nextOf, operandOf, behind};
 ghost use Rattle.effect.specs.Parts.{_then_, onward, writeA};
 ghost use Rattle.effect.specs.Refusal.{faults};
-ghost use Rattle.effect.specs.Inner.{does, toldOf, meant, takesImm, remaining, transferBy};
+ghost use Rattle.effect.specs.Becomes.{does, becameOf};
+ghost use Rattle.effect.specs.Answers.{meant};
+ghost use Rattle.effect.specs.Inner.{takesImm, remaining, transferBy};
 use crate::Effect;
 use crate::effects;
 use cell::bits_of;
@@ -225,7 +227,7 @@ fn branch(rn: u32, imm: u16, pc: u32) -> u32
 // What becomes of the instruction that a cell is.
 pub fn consider(cell: u32, regs: &[u32; 256], cells: &[u32], s: Settings) -> Considered
     ensures { λ r. ⌜ ((depth : ℕ) (journal : List ℕ) → meant s r
-        ≡ toldOf (actionOf (decodeOf cell)) (stateWith (now (regs .entry)) s depth (now (cells .entry)) journal)) ⌝ }
+        ≡ becameOf (actionOf (decodeOf cell)) (stateWith (now (regs .entry)) s depth (now (cells .entry)) journal)) ⌝ }
 {
     let pc = std::num::wrapping_add_u32(regs[255], 1);
     let bits = bits_of(cell);

@@ -18,7 +18,7 @@ use Rattle.machine.proofs.Words.{set-words}
 use Rattle.job.specs.declared.records.Kind.{Kind}
 use Rattle.job.specs.declared.records.Kind.the-variants.{Run, Register, Setup, End, Other}
 use Rattle.job.specs.declared.records.Past.{Past}
-use Rattle.job.specs.Job.{wordsOf, cellsIn, baseOf, countOf, registerOf, registerValue, settingsIn, knownOf, fitsOf, endsOf, sizeOf, kindOf, payloadOf, inOrder, withinOf, settingsFit, pastOf, nothingYet, Fate, refused, last, onward, passed, fateOf, Notice, refusedAt, endOf, followed, refusalFrom, refusalIn, Content, contentOf, contentFrom, unnamed, loadedBy, loadOf}
+use Rattle.job.specs.Job.{wordsOf, cellsIn, baseOf, countOf, registerOf, registerValue, settingsIn, knownOf, fitsOf, endsOf, sizeOf, kindOf, payloadOf, inOrder, withinOf, settingsFit, pastOf, nothingYet, Fate, refused, last, further, passed, fateOf, Notice, refusedAt, afterEnd, followed, refusalFrom, refusalIn, Content, contentOf, contentFrom, unnamed, loadedBy, loadOf}
 use Rattle.lent.specs.Little.{Bytes}
 use Rattle.lent.proofs.Numbers.{bytes-drop, bytes-take, below-4}
 use Rattle.job.specs.Loads.{Loads}
@@ -93,7 +93,7 @@ ends-by : (t : Bool) (past : Past) (size : ℕ) → passed t past size ≡ last 
 ends-by true past size h = refl
 ends-by false past size h = impossible (cc)
 
-goes-by : (t : Bool) (past seen : Past) (size n : ℕ) → passed t past size ≡ onward n seen → (t ≡ false) × (n ≡ 6 + size)
+goes-by : (t : Bool) (past seen : Past) (size n : ℕ) → passed t past size ≡ further n seen → (t ≡ false) × (n ≡ 6 + size)
 goes-by true past seen size n h = impossible (cc)
 goes-by false past seen size n h = (refl, cc)
 
@@ -109,8 +109,8 @@ walked (suc n) m left offset past c b h g = by-course (fateOf m past left) refl 
     by-course last e q f g =
         let p = passing m past left last refl e in
         rw (ends-by (endsOf (kindOf left)) _ _ (p .course)) g
-    by-course (onward size seen) e q f g =
-        let p = passing m past left (onward size seen) refl e in
+    by-course (further size seen) e q f g =
+        let p = passing m past left (further size seen) refl e in
         let w = goes-by (endsOf (kindOf left)) _ seen (sizeOf left) size (p .course) in
         let q′ : refusalFrom n m (drop (6 + sizeOf left) left) (offset + size) seen ≡ none = rw (← w .1) q in
         rw (w .0)
@@ -125,7 +125,7 @@ Named (some x) = x .number ≡ 0 → ⊥
 abbrev Numbered : Fate → Type 0
 Numbered (refused k) = k ≡ 0 → ⊥
 Numbered last = Prim.Unit {0}
-Numbered (onward size past) = Prim.Unit {0}
+Numbered (further size past) = Prim.Unit {0}
 
 passed-numbered : (t : Bool) (past : Past) (size : ℕ) → Numbered (passed t past size)
 passed-numbered true past size = tt
@@ -145,7 +145,7 @@ course-numbered m past left =
     picked Numbered (not (settingsFit kind payload)) _ _ (λ t e. omega arith) (λ t.
     passed-numbered (endsOf kind) (pastOf past kind payload) (sizeOf left))))))))
 
-end-named : (more offset : ℕ) → Named (endOf more offset)
+end-named : (more offset : ℕ) → Named (afterEnd more offset)
 end-named zero offset = tt
 end-named (suc more) offset = λ e. omega arith
 
@@ -153,7 +153,7 @@ follow-named : (rest : List ℕ → ℕ → Past → Option Notice) (v : Fate) (
     → ((l : List ℕ) (o : ℕ) (p : Past) → Named (rest l o p)) → Named (followed rest v left offset)
 follow-named rest (refused k) left offset h f = h
 follow-named rest last left offset h f = end-named (length left - 6) (offset + 6)
-follow-named rest (onward size past) left offset h f = f (drop size left) (offset + size) past
+follow-named rest (further size past) left offset h f = f (drop size left) (offset + size) past
 
 walk-named : (n m : ℕ) (left : List ℕ) (offset : ℕ) (past : Past) → Named (refusalFrom n m left offset past)
 unfolding refusalFrom

@@ -13,7 +13,7 @@ use Rattle.job.specs.declared.Answer.{Answer}
 use Rattle.job.specs.declared.Answer.the-variants.{Done, Refused}
 use Rattle.job.specs.Job.{nothingYet, refusalFrom, Content, contentFrom, unnamed, loadedWith, refusalIn, loadOf}
 use Rattle.job.specs.Answers.{noticeOf}
-use Rattle.job.specs.Inner.{refusalOf}
+use Rattle.job.specs.Inner.{noticed}
 
 unfolded : (job cells : List ℕ) → badCells (length cells) ≡ false → refusalIn (length cells) job ≡ refusalFrom (length job) (length cells) job 0 nothingYet
 unfolding refusalIn
@@ -25,15 +25,15 @@ module _ (job cells : List ℕ) where
   unfolding refusalIn
   load-few m e h = rw (h, e)
 
-  pub none-refused : (answer : Answer) → answer ≡ Done → refusalOf answer ≡ refusalFrom (length job) (length cells) job 0 nothingYet
+  pub none-refused : (answer : Answer) → answer ≡ Done → noticed answer ≡ refusalFrom (length job) (length cells) job 0 nothingYet
       → refusalFrom (length job) (length cells) job 0 nothingYet ≡ none
-  none-refused answer t e = sym e ∙ ap refusalOf t
+  none-refused answer t e = sym e ∙ ap noticed t
 
   pub load-refused : (m : Machine) (answer : Answer) (why : Refusal) (offset : ℕ) → m ≡ freshMachine → badCells (length cells) ≡ false → answer ≡ Refused why offset
-      → refusalOf answer ≡ refusalFrom (length job) (length cells) job 0 nothingYet
+      → noticed answer ≡ refusalFrom (length job) (length cells) job 0 nothingYet
       → record { machine = m; cells = cells; said = noticeOf answer } ≡ loadOf job cells
   load-refused m answer why offset f h t e =
-      let s : refusalFrom (length job) (length cells) job 0 nothingYet ≡ refusalOf (Refused why offset) = sym e ∙ ap refusalOf t in
+      let s : refusalFrom (length job) (length cells) job 0 nothingYet ≡ noticed (Refused why offset) = sym e ∙ ap noticed t in
       rw (unfolded job cells h, s, f, t)
 
   pub load-done : (c : Content) → badCells (length cells) ≡ false → refusalFrom (length job) (length cells) job 0 nothingYet ≡ none

@@ -14,7 +14,7 @@ use Rattle.job.specs.declared.records.Kind.{Kind}
 use Rattle.job.specs.declared.records.Past.{Past}
 use Rattle.job.specs.declared.reading.Look.{Look}
 use Rattle.lent.specs.Little.{numberAt}
-use Rattle.job.specs.Job.{kindBy, knownOf, fitsOf, endsOf, sizeOf, kindOf, payloadOf, pastOf, nothingYet, inOrder, withinOf, settingsFit, Fate, refused, last, onward, passed, fateOf, Notice, refusedAt, followed, refusalFrom, Content, contentOf, contentFrom}
+use Rattle.job.specs.Job.{kindBy, knownOf, fitsOf, endsOf, sizeOf, kindOf, payloadOf, pastOf, nothingYet, inOrder, withinOf, settingsFit, Fate, refused, last, further, passed, fateOf, Notice, refusedAt, followed, refusalFrom, Content, contentOf, contentFrom}
 use Rattle.job.specs.Inner.{lookedOf, Sound}
 
 -- what the records so far leave to the order, by a name for the crates above
@@ -25,7 +25,7 @@ SoFar = Past
 abbrev pub goes : Fate → Bool
 goes (refused k) = false
 goes last = true
-goes (onward size past) = true
+goes (further size past) = true
 
 clash : false ≡ true → ⊥
 clash h = let z : _≡_ {A = ℕ} 0 1 = cc in omega arith
@@ -67,7 +67,7 @@ passing m past left v g h =
     }
 
 -- the bytes that a record which is passed takes are its own
-sized : (t : Bool) (past seen : Past) (size n : ℕ) → passed t past size ≡ onward n seen → n ≡ 6 + size
+sized : (t : Bool) (past seen : Past) (size n : ℕ) → passed t past size ≡ further n seen → n ≡ 6 + size
 sized true past seen size n h = let z : _≡_ {A = ℕ} 0 1 = cc in absurd (omega arith)
 sized false past seen size n h = cc
 
@@ -144,12 +144,12 @@ module _ (m : ℕ) (job : List ℕ) (at : ℕ) (past : Past) (u : Underway m job
       let n : length (drop at job) - 6 ≡ 0 = simp length-drop (omega arith) in
       sym (rw n refl) ∙ one-more last e
 
-  module _ (size : ℕ) (seen : Past) (e : fateOf m past (drop at job) ≡ onward size seen) where
-    fitting : Passed m past (drop at job) (onward size seen)
-    fitting = passing m past (drop at job) (onward size seen) refl e
+  module _ (size : ℕ) (seen : Past) (e : fateOf m past (drop at job) ≡ further size seen) where
+    fitting : Passed m past (drop at job) (further size seen)
+    fitting = passing m past (drop at job) (further size seen) refl e
 
-    pub onward-size : (6 ≤ size) × (at + size ≤ length job)
-    onward-size =
+    pub further-size : (6 ≤ size) × (at + size ≤ length job)
+    further-size =
         let p = fitting in
         let s = sized (endsOf (kindOf (drop at job))) (pastOf past (kindOf (drop at job)) (payloadOf (drop at job))) seen (sizeOf (drop at job)) size (p .course) in
         let w : 6 + sizeOf (drop at job) ≤ length job - at = rw length-drop at (p .whole) in
@@ -157,19 +157,19 @@ module _ (m : ℕ) (job : List ℕ) (at : ℕ) (past : Past) (u : Underway m job
 
     pub again : Underway m job (at + size) seen
     again =
-        let p = onward-size in
+        let p = further-size in
         record {
           inside = p .1;
           fuel = pred (u .fuel);
           enough = omega (arith, u .enough);
-          rest = rw (← drop-drop size at job) (one-more (onward size seen) e);
+          rest = rw (← drop-drop size at job) (one-more (further size seen) e);
         }
 
 -- a walk that ends in no refusal has none at its next record
 going : (rest : List ℕ → ℕ → Past → Option Notice) (v : Fate) (left : List ℕ) (offset : ℕ) → followed rest v left offset ≡ none → goes v ≡ true
 going rest (refused k) left offset h = let z : _≡_ {A = ℕ} 0 1 = cc in absurd (omega arith)
 going rest last left offset h = refl
-going rest (onward size past) left offset h = refl
+going rest (further size past) left offset h = refl
 
 -- A job that has no refusal and is being carried out: the records left lead where all of them lead.
 pub record Carrying (m : ℕ) (job : List ℕ) (from : Content) (at : ℕ) (now : Content) : Type 0 where
@@ -214,14 +214,14 @@ module _ (m : ℕ) (job : List ℕ) (from : Content) (at : ℕ) (now : Content) 
   over e = let t = there in sym (ended (u .fuel) (drop at job) now (omega (arith, u .enough)) e) ∙ u .rest
 
   module _ (e : endsOf (kindOf (drop at job)) ≡ false) where
-    next-course : onward (6 + sizeOf (drop at job)) (pastOf (u .past) (kindOf (drop at job)) (payloadOf (drop at job))) ≡ fateOf m (u .past) (drop at job)
+    next-course : further (6 + sizeOf (drop at job)) (pastOf (u .past) (kindOf (drop at job)) (payloadOf (drop at job))) ≡ fateOf m (u .past) (drop at job)
     next-course = let c = fine .course in rw e at c
 
     pub on : (next : Content) → next ≡ contentOf (kindOf (drop at job)) (payloadOf (drop at job)) now → length (next .cells) ≡ length (now .cells)
         → Carrying m job from (at + (6 + sizeOf (drop at job))) next
     on next p q =
         let t = there in
-        let h : followed (refusalFrom (pred (u .fuel)) m) (onward (6 + sizeOf (drop at job)) (pastOf (u .past) (kindOf (drop at job)) (payloadOf (drop at job)))) (drop at job) at ≡ none
+        let h : followed (refusalFrom (pred (u .fuel)) m) (further (6 + sizeOf (drop at job)) (pastOf (u .past) (kindOf (drop at job)) (payloadOf (drop at job)))) (drop at job) at ≡ none
         = ap (λ (v : Fate). followed (refusalFrom (pred (u .fuel)) m) v (drop at job) at) next-course ∙ walked in
         record {
           inside = omega (arith, u .inside);

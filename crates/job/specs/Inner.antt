@@ -11,18 +11,18 @@ use Rattle.job.specs.declared.Answer.the-variants.{Done, Refused}
 use Rattle.job.specs.declared.records.Kind.{Kind}
 use Rattle.job.specs.declared.reading.Look.{Look}
 use Rattle.job.specs.declared.reading.Look.the-variants.{Bad, Last, Next}
-use Rattle.job.specs.Job.{fitsOf, withinOf, Fate, refused, last, onward, Notice, Content}
+use Rattle.job.specs.Job.{fitsOf, withinOf, Fate, refused, last, further, Notice, Content}
 use Rattle.refusal.specs.Refusal.{numberOf}
 
 -- the course of a record, and the refusal of a job, from the code's answers
 abbrev pub lookedOf : Look → Fate
 lookedOf (Bad why) = refused (numberOf why)
 lookedOf Last = last
-lookedOf (Next size past) = onward size past
+lookedOf (Next size past) = further size past
 
-abbrev pub refusalOf : Answer → Option Notice
-refusalOf Done = none
-refusalOf (Refused why offset) = some (record { number = numberOf why; offset = offset })
+abbrev pub noticed : Answer → Option Notice
+noticed Done = none
+noticed (Refused why offset) = some (record { number = numberOf why; offset = offset })
 
 -- registers, settings and cells, each by itself
 abbrev pub contentWith : List ℕ → Settings → List ℕ → Content

@@ -173,11 +173,11 @@ settingsFit Other payload = true
 pub data Fate : Type 0 where
   refused : ℕ → Fate
   last : Fate
-  onward : ℕ → Past → Fate
+  further : ℕ → Past → Fate
 
 abbrev pub passed : Bool → Past → ℕ → Fate
 passed true past size = last
-passed false past size = onward (6 + size) past
+passed false past size = further (6 + size) past
 
 -- a payload: out of order, past the cells, settings out of range
 abbrev pub payloadFate : ℕ → Past → Kind → List ℕ → ℕ → Fate
@@ -197,14 +197,14 @@ fateOf m past left =
     (payloadFate m past (kindOf left) (payloadOf left) (sizeOf left)))))
 
 -- after the last record: 47 where the first byte more stands
-abbrev pub endOf : ℕ → ℕ → Option Notice
-endOf zero offset = none
-endOf (suc more) offset = refusedAt 47 offset
+abbrev pub afterEnd : ℕ → ℕ → Option Notice
+afterEnd zero offset = none
+afterEnd (suc more) offset = refusedAt 47 offset
 
 abbrev pub followed : (List ℕ → ℕ → Past → Option Notice) → Fate → List ℕ → ℕ → Option Notice
 followed rest (refused number) left offset = refusedAt number offset
-followed rest last left offset = endOf (length left - 6) (offset + 6)
-followed rest (onward size past) left offset = rest (drop size left) (offset + size) past
+followed rest last left offset = afterEnd (length left - 6) (offset + 6)
+followed rest (further size past) left offset = rest (drop size left) (offset + size) past
 
 -- The first refusal of the records left, from an offset on, or none. A record has at least 6 bytes, so no job has as many records as
 -- it has bytes: the first number only says that the walk ends.

@@ -7,7 +7,7 @@ ghost use lib.ListN.{length, set};
 ghost use lib.Seq.{sets};
 ghost use Rattle.machine.specs.State.{freshSettings};
 ghost use Rattle.job.specs.Job.{fitsOf, registerOf, registerValue, nothingYet, fateOf, payloadFate, refusalFrom, baseOf, cellsIn, wordsOf, contentOf, contentFrom};
-ghost use Rattle.job.specs.Inner.{lookedOf, refusalOf, contentWith, Sound};
+ghost use Rattle.job.specs.Inner.{lookedOf, noticed, contentWith, Sound};
 use crate::Answer;
 use crate::records::Kind;
 use crate::records::Past;
@@ -78,7 +78,7 @@ fn look_at(m: usize, past: Past, left: &[u8]) -> Look
 
 // A job's first refusal, or none.
 pub(crate) fn examine(job: &[u8], m: usize) -> Answer
-    ensures { λ r. ⌜ refusalOf r ≡ refusalFrom (length (now (job .entry))) m (now (job .entry)) 0 nothingYet ⌝ }
+    ensures { λ r. ⌜ noticed r ≡ refusalFrom (length (now (job .entry))) m (now (job .entry)) 0 nothingYet ⌝ }
 {
     let mut at = 0;
     let mut past = Past {

@@ -16,6 +16,6 @@ abbrev pub damagedIn : State → Bool
 damagedIn s = damagedOf (length (s .cells)) (lastOf (s .journal) (s .depth))
 
 -- there is a last step, and its entry can be one
-pub record Sound (s : State) : Type 0 where
+pub record Undoable (s : State) : Type 0 where
   pub some : s .depth ≡ 0 → ⊥
   pub whole : damagedIn s ≡ false

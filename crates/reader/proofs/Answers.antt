@@ -23,7 +23,7 @@ use Rattle.line.specs.Line.{spelled, lineOf}
 use Rattle.line.proofs.Sizes.{line-spelled}
 use Rattle.reader.specs.Reader.{Reads}
 use Rattle.reader.specs.Answers.{readReply}
-use Rattle.reader.specs.Reading.{Taken, taken, missing, numberOf, fieldOf, wordFrom, ended, refused, finished, onTaken, registersOf, immediateOf, reservedOf, cellOf, restOf, readOf}
+use Rattle.reader.specs.Reading.{Taken, taken, missing, numeralOf, fieldOf, wordFrom, ended, refused, finished, onTaken, registersOf, immediateOf, reservedOf, cellOf, restOf, readOf}
 use Rattle.cell.proofs.Tests.{never, both-left, both-right}
 use Rattle.reader.proofs.Numbers.{number-back, number-true, field-back, field-true}
 use Rattle.reader.proofs.Search.{word-true, word-back, reserved, cell-word, cell-words, cell-back}
@@ -177,7 +177,7 @@ module _ (x : ℕ) (t : List ℕ) {c : ℕ} (h : x < 123) where
   cell-true : formOf x ≡ form.Reserved → cellOf t ≡ made c → (wordOf x ++ t ≡ lineOf c) × (c < 2 ^ 32)
   unfolding cellOf
   cell-true r e =
-      let v = opened (numberOf 4294967295 t) _ e in
+      let v = opened (numeralOf 4294967295 t) _ e in
       let f = finished-true (reservedOf (formOf (opcodeOf (v .value))) (v .value)) (v .rest) (v .then) in
       let w = reserved-true (formOf (opcodeOf (v .value))) (v .value) (f .0) in
       let tv = number-true 4294967295 (lit< tt) t (v .is) in

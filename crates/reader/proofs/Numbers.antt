@@ -13,7 +13,7 @@ use lib.ListN.{length, getD, drop, drop-of-length-le}
 use lib.Seq.{drop-cons, drop-append-seam}
 use Rattle.cell.proofs.Tests.{never, both-left, both-right}
 use Rattle.text.specs.Text.{decimal}
-use Rattle.reader.specs.Reading.{taken, missing, digit, grows, atMost, runOn, numberOf, fieldOf}
+use Rattle.reader.specs.Reading.{taken, missing, digit, grows, atMost, runOn, numeralOf, fieldOf}
 use Rattle.mnemonic.specs.Inner.{begins}
 use Rattle.mnemonic.proofs.Pieces.{begins-split, begins-append}
 use Rattle.text.proofs.Decimal.{below-ten, decimal-small, decimal-large, decimal-next}
@@ -29,8 +29,8 @@ grows-means limit v b e =
 
 -- at a place of a text
 module _ (limit : ℕ) (s : List ℕ) (i : ℕ) where
-  pub number-none : length s ≤ i → numberOf limit (drop i s) ≡ missing
-  unfolding numberOf
+  pub number-none : length s ≤ i → numeralOf limit (drop i s) ≡ missing
+  unfolding numeralOf
   number-none h = rw (drop-of-length-le s h)
 
   pub run-end : (v : ℕ) → length s ≤ i → runOn limit v (drop i s) ≡ atMost limit v (drop i s)
@@ -38,12 +38,12 @@ module _ (limit : ℕ) (s : List ℕ) (i : ℕ) where
   run-end v h = rw (drop-of-length-le s h)
 
   module _ (h : i < length s) where
-    pub number-other : digit (getD s i 0) ≡ false → numberOf limit (drop i s) ≡ missing
-    unfolding numberOf
+    pub number-other : digit (getD s i 0) ≡ false → numeralOf limit (drop i s) ≡ missing
+    unfolding numeralOf
     number-other e = rw (drop-cons s i 0 h, e)
 
-    pub number-first : digit (getD s i 0) ≡ true → numberOf limit (drop i s) ≡ runOn limit (getD s i 0 - 48) (drop (i + 1) s)
-    unfolding numberOf
+    pub number-first : digit (getD s i 0) ≡ true → numeralOf limit (drop i s) ≡ runOn limit (getD s i 0 - 48) (drop (i + 1) s)
+    unfolding numeralOf
     number-first e = rw (add-one i, drop-cons s i 0 h, e)
 
     pub run-stop : (v : ℕ) → grows limit v (getD s i 0) ≡ false → runOn limit v (drop i s) ≡ atMost limit v (drop i s)
@@ -56,7 +56,7 @@ module _ (limit : ℕ) (s : List ℕ) (i : ℕ) where
 
 -- a field is its sign and a number
 module _ (sign : List ℕ) (limit : ℕ) (s : List ℕ) where
-  pub field-has : begins sign s ≡ true → fieldOf sign limit s ≡ numberOf limit (drop (length sign) s)
+  pub field-has : begins sign s ≡ true → fieldOf sign limit s ≡ numeralOf limit (drop (length sign) s)
   unfolding fieldOf
   field-has e = rw e
 
@@ -108,12 +108,12 @@ module _ (limit : ℕ) (bound : limit < 2 ^ 32) where
       (sym (rw (decimal-small (b - 48) (omega arith), q) refl) ∙ p .text, p .small)
   number-tested b s false e r = never (cc)
 
-  pub number-true : (s : List ℕ) {w : ℕ} {t : List ℕ} → numberOf limit s ≡ taken w t → (s ≡ decimal w ++ t) × (w ≤ limit)
-  unfolding numberOf
+  pub number-true : (s : List ℕ) {w : ℕ} {t : List ℕ} → numeralOf limit s ≡ taken w t → (s ≡ decimal w ++ t) × (w ≤ limit)
+  unfolding numeralOf
   number-true [] r = never (cc)
   number-true (b ∷ s) r = number-tested b s (digit b) refl r
 
-  field-tested : (sign s : List ℕ) {w : ℕ} {t : List ℕ} (d : Bool) → begins sign s ≡ d → cond d (numberOf limit (drop (length sign) s)) missing ≡ taken w t → (s ≡ sign ++ (decimal w ++ t)) × (w ≤ limit)
+  field-tested : (sign s : List ℕ) {w : ℕ} {t : List ℕ} (d : Bool) → begins sign s ≡ d → cond d (numeralOf limit (drop (length sign) s)) missing ≡ taken w t → (s ≡ sign ++ (decimal w ++ t)) × (w ≤ limit)
   field-tested sign s {w} {t} true e r =
       let p : (drop (length sign) s ≡ decimal w ++ t) × (w ≤ limit) = number-true (drop (length sign) s) r in
       (begins-split sign s e ∙ ap (λ (u : List ℕ). sign ++ u) (p .0), p .1)
@@ -127,8 +127,8 @@ module _ (limit : ℕ) (bound : limit < 2 ^ 32) where
   digit-of : (d : ℕ) → d < 10 → digit (48 + d) ≡ true
   digit-of d h = rw (le-leb 48 (48 + d) (omega arith), le-leb (48 + d) 57 (omega arith))
 
-  run-small : (n : ℕ) (t : List ℕ) → n < 10 → numberOf limit (decimal n ++ t) ≡ runOn limit n t
-  unfolding numberOf
+  run-small : (n : ℕ) (t : List ℕ) → n < 10 → numeralOf limit (decimal n ++ t) ≡ runOn limit n t
+  unfolding numeralOf
   run-small n t h =
       let e : 48 + n - 48 ≡ n = omega arith in
       rw (decimal-small n h, digit-of n h, e)
@@ -139,13 +139,13 @@ module _ (limit : ℕ) (bound : limit < 2 ^ 32) where
       let e : 48 + d - 48 ≡ d = omega arith in
       rw (digit-of d h, lt-ltb 0 v p, le-leb v limit l, e)
 
-  run-large : (n : ℕ) (t : List ℕ) → 10 ≤ n → n ≤ limit → numberOf limit (decimal (n / 10) ++ (48 + n % 10) ∷ t) ≡ runOn limit (n / 10) ((48 + n % 10) ∷ t) → numberOf limit (decimal n ++ t) ≡ runOn limit n t
+  run-large : (n : ℕ) (t : List ℕ) → 10 ≤ n → n ≤ limit → numeralOf limit (decimal (n / 10) ++ (48 + n % 10) ∷ t) ≡ runOn limit (n / 10) ((48 + n % 10) ∷ t) → numeralOf limit (decimal n ++ t) ≡ runOn limit n t
   run-large n t h l r =
       let e : 10 * (n / 10) + n % 10 ≡ n = omega arith in
       rw (decimal-large n h (omega arith), append-assoc (decimal (n / 10)) ((48 + n % 10) ∷ []) t)
       (r ∙ run-digit (n / 10) (n % 10) t (omega arith) (omega arith) (omega arith) ∙ ap (λ (v : ℕ). runOn limit v t) e)
 
-  run-on : (k n : ℕ) (t : List ℕ) → n < 10 ^ suc k → n ≤ limit → numberOf limit (decimal n ++ t) ≡ runOn limit n t
+  run-on : (k n : ℕ) (t : List ℕ) → n < 10 ^ suc k → n ≤ limit → numeralOf limit (decimal n ++ t) ≡ runOn limit n t
   run-on zero n t h l = run-small n t h
   run-on (suc k) n t h l =
       ⊎-elim (λ (s : n < 10). run-small n t s)
@@ -156,11 +156,11 @@ module _ (limit : ℕ) (bound : limit < 2 ^ 32) where
   unfolding runOn
   run-ends n b t l e = rw (e, le-leb n limit l)
 
-  pub number-back : (n b : ℕ) (t : List ℕ) → n ≤ limit → digit b ≡ false → numberOf limit (decimal n ++ b ∷ t) ≡ taken n (b ∷ t)
+  pub number-back : (n b : ℕ) (t : List ℕ) → n ≤ limit → digit b ≡ false → numeralOf limit (decimal n ++ b ∷ t) ≡ taken n (b ∷ t)
   number-back n b t l e = run-on 9 n (b ∷ t) (omega arith) l ∙ run-ends n b t l e
 
   pub field-back : (sign : List ℕ) (n b : ℕ) (t : List ℕ) → n ≤ limit → digit b ≡ false → fieldOf sign limit (sign ++ (decimal n ++ b ∷ t)) ≡ taken n (b ∷ t)
   field-back sign n b t l e =
       field-has sign limit (sign ++ (decimal n ++ b ∷ t)) (begins-append sign (decimal n ++ b ∷ t))
-      ∙ ap (λ (s : List ℕ). numberOf limit s) (drop-append-seam sign (decimal n ++ b ∷ t))
+      ∙ ap (λ (s : List ℕ). numeralOf limit s) (drop-append-seam sign (decimal n ++ b ∷ t))
       ∙ number-back n b t l e

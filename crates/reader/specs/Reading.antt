@@ -21,9 +21,9 @@ pub data Taken : Type 0 where
   missing : Taken
 
 -- a field's answer, with the rest of the text for the place of its first byte
-abbrev pub seen : List ℕ → Part → Taken
-seen text (Value v next) = taken v (drop next text)
-seen text Missing = missing
+abbrev pub takenFrom : List ℕ → Part → Taken
+takenFrom text (Value v next) = taken v (drop next text)
+takenFrom text Missing = missing
 
 -- b is one of the digits 0 to 9
 abbrev pub digit : ℕ → Bool
@@ -43,13 +43,13 @@ runOn limit v [] = atMost limit v []
 runOn limit v (b ∷ s) = cond (grows limit v b) (runOn limit (10 * v + (b - 48)) s) (atMost limit v (b ∷ s))
 
 -- a number of at most the limit
-unfoldable pub numberOf : ℕ → List ℕ → Taken
-numberOf limit [] = missing
-numberOf limit (b ∷ s) = cond (digit b) (runOn limit (b - 48) s) missing
+unfoldable pub numeralOf : ℕ → List ℕ → Taken
+numeralOf limit [] = missing
+numeralOf limit (b ∷ s) = cond (digit b) (runOn limit (b - 48) s) missing
 
 -- a sign, and a number
 unfoldable pub fieldOf : List ℕ → ℕ → List ℕ → Taken
-fieldOf sign limit s = cond (begins sign s) (numberOf limit (drop (length sign) s)) missing
+fieldOf sign limit s = cond (begins sign s) (numeralOf limit (drop (length sign) s)) missing
 
 -- the first of n opcodes from x on whose word the text begins with
 unfoldable pub wordFrom : ℕ → ℕ → List ℕ → Taken
@@ -90,7 +90,7 @@ reservedOf form.Immediate c = refused
 reservedOf form.Reserved c = record { number = 0; cell = c }
 
 unfoldable pub cellOf : List ℕ → Reply
-cellOf s = onTaken (numberOf 4294967295 s) (λ c s₁. finished (reservedOf (formOf (opcodeOf c)) c) s₁)
+cellOf s = onTaken (numeralOf 4294967295 s) (λ c s₁. finished (reservedOf (formOf (opcodeOf c)) c) s₁)
 
 abbrev pub restOf : Form → ℕ → List ℕ → Reply
 restOf form.Registers x s = registersOf x s

@@ -5,7 +5,7 @@ ghost use Prim.Native.Nat.{ℕ};
 ghost use lib.ListN.{drop};
 ghost use Rattle.reader.specs.Reader.{Reads};
 ghost use Rattle.reader.specs.Answers.{readReply};
-ghost use Rattle.reader.specs.Reading.{seen, digit, grows, atMost, numberOf, fieldOf, wordFrom, ended, finished, registersOf, immediateOf, cellOf};
+ghost use Rattle.reader.specs.Reading.{takenFrom, digit, grows, atMost, numeralOf, fieldOf, wordFrom, ended, finished, registersOf, immediateOf, cellOf};
 ghost use Rattle.mnemonic.specs.Inner.{begins};
 ghost use Rattle.cell.specs.Answers.{encodedReply};
 use cell::Encoded;
@@ -60,7 +60,7 @@ fn goes_on(value: u64, b: u8, limit: u32) -> bool
 
 // A number that ends at a place, if it is within a limit.
 fn at_most(value: u64, next: usize, limit: u32) -> Part
-    ensures { λ r. ⌜ ((s : List ℕ) → seen s r ≡ atMost limit value (drop next s)) ⌝ }
+    ensures { λ r. ⌜ ((s : List ℕ) → takenFrom s r ≡ atMost limit value (drop next s)) ⌝ }
 {
     if value <= limit as u64 {
         Part::Value {
@@ -74,7 +74,7 @@ fn at_most(value: u64, next: usize, limit: u32) -> Part
 
 // The decimal number that stands in a text from a place on, if it is within a limit.
 fn number(text: &[u8], at: usize, limit: u32) -> Part
-    ensures { λ r. ⌜ seen (now (text .entry)) r ≡ numberOf limit (drop at (now (text .entry))) ⌝ }
+    ensures { λ r. ⌜ takenFrom (now (text .entry)) r ≡ numeralOf limit (drop at (now (text .entry))) ⌝ }
 {
     if text.len() <= at {
         return Part::Missing;
@@ -98,7 +98,7 @@ fn number(text: &[u8], at: usize, limit: u32) -> Part
 
 // A sign and the number after it.
 fn field(text: &[u8], at: usize, sign: &[u8], limit: u32) -> Part
-    ensures { λ r. ⌜ seen (now (text .entry)) r ≡ fieldOf (now (sign .entry)) limit (drop at (now (text .entry))) ⌝ }
+    ensures { λ r. ⌜ takenFrom (now (text .entry)) r ≡ fieldOf (now (sign .entry)) limit (drop at (now (text .entry))) ⌝ }
 {
     if starts(text, at, sign) {
         number(text, at + sign.len(), limit)
@@ -109,7 +109,7 @@ fn field(text: &[u8], at: usize, sign: &[u8], limit: u32) -> Part
 
 // The first opcode whose word a text begins with.
 fn word(text: &[u8]) -> Part
-    ensures { λ r. ⌜ seen (now (text .entry)) r ≡ wordFrom 123 0 (now (text .entry)) ⌝ }
+    ensures { λ r. ⌜ takenFrom (now (text .entry)) r ≡ wordFrom 123 0 (now (text .entry)) ⌝ }
 {
     let mut word = [0u8; 8];
     let mut x: u8 = 0;

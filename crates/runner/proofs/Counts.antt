@@ -16,7 +16,7 @@ use Rattle.machine.specs.State.{State, capacityOf}
 use Rattle.journal.specs.Journal.{endedOf, regsAfter, lastOf, damagedOf, undoOf}
 use Rattle.machine.specs.Stops.{Said, plainly}
 use Rattle.step.specs.Step.{Course, going, stopped, refused, trapsOf, answered, courseOf, effectIn, moved, refusalOf, stepOf}
-use Rattle.runner.specs.Calls.{Out, stopAt, onward, runFrom, backFrom, checkOf, called, runOf, backOf}
+use Rattle.runner.specs.Calls.{Out, stopAt, goOn, runFrom, backFrom, checkOf, called, runOf, backOf}
 
 -- how many steps a course did
 abbrev pub done : Course → ℕ
@@ -61,17 +61,17 @@ unfolding stepOf
 step-refused s x h = moved-refused s (refusalOf s) x h
 
 -- a run's count, from k done before
-onward-count : (rest : ℕ → State → Out) (c : Course) (k d : ℕ) (s : State) → s .depth ≡ d + done c
+on-count : (rest : ℕ → State → Out) (c : Course) (k d : ℕ) (s : State) → s .depth ≡ d + done c
     → ((j : ℕ) (t : State) → rest j t .count + t .depth ≡ j + rest j t .state .depth)
-    → onward rest c k s .count + d ≡ k + onward rest c k s .state .depth
-onward-count rest going k d s h f = omega (arith, f (k + 1) s)
-onward-count rest (stopped x) k d s h f = omega arith
-onward-count rest (refused x) k d s h f = omega arith
+    → goOn rest c k s .count + d ≡ k + goOn rest c k s .state .depth
+on-count rest going k d s h f = omega (arith, f (k + 1) s)
+on-count rest (stopped x) k d s h f = omega arith
+on-count rest (refused x) k d s h f = omega arith
 
 pub run-from-count : (n k : ℕ) (s : State) → runFrom n k s .count + s .depth ≡ k + runFrom n k s .state .depth
 unfolding runFrom
 run-from-count zero k s = refl
-run-from-count (suc n) k s = onward-count (runFrom n) (stepOf s .course) k (s .depth) (stepOf s .state) (step-done s) (run-from-count n)
+run-from-count (suc n) k s = on-count (runFrom n) (stepOf s .course) k (s .depth) (stepOf s .state) (step-done s) (run-from-count n)
 
 -- the count of going back
 back-turn : (t u : Bool) (rest : ℕ → State → Out) (k : ℕ) (s : State) → (t ≡ false → 1 ≤ s .depth)

@@ -8,13 +8,13 @@ use lib.ListN.{length}
 use Rattle.machine.specs.State.{State}
 use Rattle.machine.specs.Stops.{Said, plainly}
 use Rattle.step.specs.Step.{Course, going, stopped, refused, Moved, stepOf}
-use Rattle.runner.specs.Calls.{stopAt, onward, runFrom}
+use Rattle.runner.specs.Calls.{stopAt, goOn, runFrom}
 
 -- one of what is left
 pub left : (b d : ℕ) → d < b → b - d ≡ suc (b - (d + 1))
 left b d h = omega arith
 
-turn : (n k : ℕ) (s : State) (w : Moved) (v : Course) → w ≡ stepOf s → w .course ≡ v → runFrom (suc n) k s ≡ onward (runFrom n) v k (w .state)
+turn : (n k : ℕ) (s : State) (w : Moved) (v : Course) → w ≡ stepOf s → w .course ≡ v → runFrom (suc n) k s ≡ goOn (runFrom n) v k (w .state)
 unfolding runFrom
 turn n k s w v e p = rw (← e, p)
 

@@ -20,15 +20,15 @@ abbrev pub stopAt : Said → ℕ → State → Out
 stopAt x k s = record { state = s; said = x; count = k }
 
 -- after a step: the rest of the run, or its end
-abbrev pub onward : (ℕ → State → Out) → Course → ℕ → State → Out
-onward rest going k s = rest (k + 1) s
-onward rest (stopped x) k s = stopAt x (k + 1) s
-onward rest (refused x) k s = stopAt x k s
+abbrev pub goOn : (ℕ → State → Out) → Course → ℕ → State → Out
+goOn rest going k s = rest (k + 1) s
+goOn rest (stopped x) k s = stopAt x (k + 1) s
+goOn rest (refused x) k s = stopAt x k s
 
 -- A run with n steps to do and k done: the number is looked at before each step.
 unfoldable pub runFrom : ℕ → ℕ → State → Out
 runFrom zero k s = stopAt (plainly 0) k s
-runFrom (suc n) k s = onward (runFrom n) (stepOf s .course) k (stepOf s .state)
+runFrom (suc n) k s = goOn (runFrom n) (stepOf s .course) k (stepOf s .state)
 
 -- The same back: the number, then depth 0, then a damaged entry.
 unfoldable pub backFrom : ℕ → ℕ → State → Out

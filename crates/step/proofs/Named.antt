@@ -10,7 +10,7 @@ use Rattle.step.specs.declared.Advanced.{Advanced}
 use Rattle.step.specs.Step.{Course, going, stopped, refused, Moved}
 use Rattle.step.specs.Answers.{verdictOf, advancedTo}
 
--- the verdict that was told
+-- the verdict that was became
 abbrev verdict : Course → Verdict
 verdict going = Going
 verdict (stopped x) = Stopped (heard x)

@@ -16,7 +16,8 @@ use Rattle.effect.specs.Refusal.{refusedBy}
 use Rattle.step.specs.Step.{actionIn, refusalOf, effectIn, refused, answered, stepOf}
 use Rattle.machine.specs.Stops.{plainly}
 use Rattle.step.specs.Inner.{doneOf, answeredBy}
-use Rattle.effect.specs.Inner.{Told, does, told, meant, toldOf}
+use Rattle.effect.specs.Becomes.{Became, does, became, becameOf}
+use Rattle.effect.specs.Answers.{meant}
 use Rattle.effect.proofs.Safe.{Safe, safe}
 
 -- the answer as the code tells it
@@ -52,29 +53,29 @@ module _ (s : State) where
       looked-at h = rw (lt-leb _ _ on, lt-leb _ _ within, lt-leb _ _ h)
 
 -- what was considered, by the case that it is
-pub read-as : (s : Settings) (r x : Considered) (y : Told) → r ≡ x → meant s r ≡ y → meant s x ≡ y
+pub read-as : (s : Settings) (r x : Considered) (y : Became) → r ≡ x → meant s r ≡ y → meant s x ≡ y
 read-as s r x y e h = rw (← e) h
 
--- what was told tells the refusal, or the effect
+-- what was became tells the refusal, or the effect
 never : {P : Type 0} → _≡_ {A = ℕ} 0 1 → P
 never z = absurd (omega arith)
 
-refused-is : (o : Option ℕ) (e : Effect) (k : ℕ) → told o e ≡ Told.refused k → o ≡ some k
+refused-is : (o : Option ℕ) (e : Effect) (k : ℕ) → became o e ≡ Became.refused k → o ≡ some k
 refused-is (some j) e k h = cc
 refused-is none e k h = never (cc)
 
-does-is : (o : Option ℕ) (e f : Effect) → told o e ≡ does f → (o ≡ none) × (e ≡ f)
+does-is : (o : Option ℕ) (e f : Effect) → became o e ≡ does f → (o ≡ none) × (e ≡ f)
 does-is (some j) e f h = never (cc)
 does-is none e f h = (refl, cc)
 
 module _ (s : State) (same : refusalOf s ≡ refusedBy (actionIn s) s) where
-  pub refused-by : (k : ℕ) → Told.refused k ≡ toldOf (actionIn s) s → refusalOf s ≡ some k
-  unfolding toldOf
+  pub refused-by : (k : ℕ) → Became.refused k ≡ becameOf (actionIn s) s → refusalOf s ≡ some k
+  unfolding becameOf
   refused-by k h = same ∙ refused-is _ _ k (sym h)
 
-  module _ (e : Effect) (h : does e ≡ toldOf (actionIn s) s) where
+  module _ (e : Effect) (h : does e ≡ becameOf (actionIn s) s) where
     allowed : (refusedBy (actionIn s) s ≡ none) × (effectIn s ≡ e)
-    unfolding toldOf effectIn
+    unfolding becameOf effectIn
     allowed = does-is _ _ e (sym h)
 
     pub safe-does : Safe (length (s .cells)) (s .settings) e

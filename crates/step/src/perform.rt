@@ -7,7 +7,7 @@ ghost use lib.ListN.{length};
 ghost use lib.Seq.{sets};
 ghost use Rattle.machine.specs.State.{capacityOf, stateWith};
 ghost use Rattle.effect.specs.Parts.{noStore, gets};
-ghost use Rattle.effect.specs.Inner.{movingOf, writingOf, storingOf, splittingOf, swappingOf};
+ghost use Rattle.effect.specs.Answers.{movingOf, writingOf, storingOf, splittingOf, swappingOf};
 ghost use Rattle.journal.specs.Words.{eightOf, startOf, entryWith};
 ghost use Rattle.journal.specs.Journal.{writesIn, regsAfter};
 ghost use Rattle.step.specs.Answers.{advancedTo};

@@ -6,7 +6,7 @@ use native.Mathlib.Omega.{arith}
 use borrow.Author.Needs.{needs}
 use lib.ListN.{length, drop, length-drop}
 use lib.Seq.{drop-drop}
-use Rattle.reader.specs.Reading.{numberOf}
+use Rattle.reader.specs.Reading.{numeralOf}
 use Rattle.reader.proofs.Pieces.{begins-length}
 use Rattle.reader.proofs.Numbers.{field-has, field-lacks}
 use Rattle.reader.proofs.field.Statement.{statement}
@@ -27,7 +27,7 @@ returns : tie.Need-returns
 returns c =
     let a = c .before .before .before .before .before .args in
     c .number .ensures
-    ∙ ap (λ (t : List ℕ). numberOf (a .limit) t) (sym (drop-drop (length (a .sign .now)) (a .at) (a .text .now)))
+    ∙ ap (λ (t : List ℕ). numeralOf (a .limit) t) (sym (drop-drop (length (a .sign .now)) (a .at) (a .text .now)))
     ∙ sym (field-has (a .sign .now) (a .limit) (drop (a .at) (a .text .now)) (sym (c .before .before .starts .ensures) ∙ c .before .if1 .taken))
 
 returns-2 : tie.Need-returns-2

@@ -7,13 +7,13 @@ use native.Mathlib.Omega.{arith}
 use borrow.Author.Needs.{needs}
 use lib.ListN.{length, drop, getD}
 use borrow.Author.Tests.{not-true, not-false}
-use Rattle.reader.specs.Reading.{digit, grows, runOn, numberOf}
+use Rattle.reader.specs.Reading.{digit, grows, runOn, numeralOf}
 use Rattle.reader.proofs.Numbers.{digit-means, grows-means, number-none, number-other, number-first, run-end, run-stop, run-step}
 use Rattle.reader.proofs.number.Statement.{statement}
 use Rattle.reader.proofs.number.Tie as tie
 
 abbrev Inv-loop : tie.InvT-loop
-Inv-loop text at limit first value₀ i₀ value i = (runOn limit value (drop i text) ≡ numberOf limit (drop at text)) × (value < 2 ^ 36)
+Inv-loop text at limit first value₀ i₀ value i = (runOn limit value (drop i text) ≡ numeralOf limit (drop at text)) × (value < 2 ^ 36)
 
 abbrev μ-loop : tie.MeasureT-loop
 μ-loop text at limit first value₀ i₀ value i = length text - i

@@ -7,7 +7,7 @@ use Rattle.cell.specs.declared.Form.{Form}
 use Rattle.cell.specs.declared.Form.the-variants as form
 use Rattle.cell.specs.Cell.{formOf}
 use Rattle.reader.specs.declared.ReadLine.the-variants.{NoLine}
-use Rattle.reader.specs.Reading.{seen, taken, missing, wordFrom, restOf, readOf}
+use Rattle.reader.specs.Reading.{takenFrom, taken, missing, wordFrom, restOf, readOf}
 use Rattle.reader.proofs.Search.{word-true}
 use Rattle.reader.proofs.Answers.{stated}
 use Rattle.reader.proofs.read.Statement.{statement}
@@ -15,10 +15,10 @@ use Rattle.reader.proofs.read.Tie as tie
 
 -- what the word's answer says of the text
 got : (c : tie.After-known-told) → wordFrom 123 0 (c .before .before .before .before .before .args .text .now) ≡ taken (c .before .value .given .0 .0) (drop (c .before .value .given .0 .1 .0) (c .before .before .before .before .before .args .text .now))
-got c = sym (c .before .before .before .word .ensures) ∙ ap (seen (c .before .before .before .before .before .args .text .now)) (c .before .value .given .1)
+got c = sym (c .before .before .before .word .ensures) ∙ ap (takenFrom (c .before .before .before .before .before .args .text .now)) (c .before .value .given .1)
 
 none : (c : tie.After-enum-told) → wordFrom 123 0 (c .before .before .before .before .args .text .now) ≡ missing
-none c = sym (c .before .before .word .ensures) ∙ ap (seen (c .before .before .before .before .args .text .now)) (c .enum-told .given .1)
+none c = sym (c .before .before .word .ensures) ∙ ap (takenFrom (c .before .before .before .before .args .text .now)) (c .enum-told .given .1)
 
 whole : (c : tie.After-known-told) (f : Form) → formOf (c .before .value .given .0 .0) ≡ f → readOf (c .before .before .before .before .before .args .text .now) ≡ restOf f (c .before .value .given .0 .0) (drop (c .before .value .given .0 .1 .0) (c .before .before .before .before .before .args .text .now))
 unfolding readOf

@@ -5,16 +5,16 @@ use lib.ListN.{drop}
 use Rattle.cell.specs.declared.Form.{Form}
 use Rattle.cell.specs.declared.Form.the-variants as form
 use Rattle.cell.specs.Cell.{formOf, opcodeOf}
-use Rattle.reader.specs.Reading.{seen, taken, missing, numberOf, finished, reservedOf, cellOf}
+use Rattle.reader.specs.Reading.{takenFrom, taken, missing, numeralOf, finished, reservedOf, cellOf}
 use Rattle.reader.proofs.read_cell.Statement.{statement}
 use Rattle.reader.proofs.read_cell.Tie as tie
 
 -- what the number's answer says of the text
-got : (c : tie.After-known-told) → numberOf 4294967295 (drop (c .before .before .before .before .before .args .at) (c .before .before .before .before .before .args .text .now)) ≡ taken (c .before .value .given .0 .0) (drop (c .before .value .given .0 .1 .0) (c .before .before .before .before .before .args .text .now))
-got c = sym (c .before .before .before .number .ensures) ∙ ap (seen (c .before .before .before .before .before .args .text .now)) (c .before .value .given .1)
+got : (c : tie.After-known-told) → numeralOf 4294967295 (drop (c .before .before .before .before .before .args .at) (c .before .before .before .before .before .args .text .now)) ≡ taken (c .before .value .given .0 .0) (drop (c .before .value .given .0 .1 .0) (c .before .before .before .before .before .args .text .now))
+got c = sym (c .before .before .before .number .ensures) ∙ ap (takenFrom (c .before .before .before .before .before .args .text .now)) (c .before .value .given .1)
 
-none : (c : tie.After-enum-told) → numberOf 4294967295 (drop (c .before .before .before .before .args .at) (c .before .before .before .before .args .text .now)) ≡ missing
-none c = sym (c .before .before .number .ensures) ∙ ap (seen (c .before .before .before .before .args .text .now)) (c .enum-told .given .1)
+none : (c : tie.After-enum-told) → numeralOf 4294967295 (drop (c .before .before .before .before .args .at) (c .before .before .before .before .args .text .now)) ≡ missing
+none c = sym (c .before .before .number .ensures) ∙ ap (takenFrom (c .before .before .before .before .args .text .now)) (c .enum-told .given .1)
 
 whole : (c : tie.After-known-told) (f : Form) → formOf (opcodeOf (c .before .value .given .0 .0)) ≡ f → cellOf (drop (c .before .before .before .before .before .args .at) (c .before .before .before .before .before .args .text .now)) ≡ finished (reservedOf f (c .before .value .given .0 .0)) (drop (c .before .value .given .0 .1 .0) (c .before .before .before .before .before .args .text .now))
 unfolding cellOf

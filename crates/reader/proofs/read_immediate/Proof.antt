@@ -7,23 +7,23 @@ use lib.ListN.{drop}
 use Rattle.cell.specs.Cell.{Reply, encodeOf}
 use Rattle.cell.specs.declared.Operands.the-variants as operands
 use Rattle.text.specs.Text.{bytes}
-use Rattle.reader.specs.Reading.{seen, taken, missing, fieldOf, finished, immediateOf}
+use Rattle.reader.specs.Reading.{takenFrom, taken, missing, fieldOf, finished, immediateOf}
 use Rattle.reader.proofs.Numbers.{field-true}
 use Rattle.reader.proofs.read_immediate.Statement.{statement}
 use Rattle.reader.proofs.read_immediate.Tie as tie
 
 -- what each field's answer says of the text
 got-n : (c : tie.After-known-told) → fieldOf (bytes "R") 255 (drop (c .before .before .before .before .before .before .args .at) (c .before .before .before .before .before .before .args .text .now)) ≡ taken (c .before .n .given .0 .0) (drop (c .before .n .given .0 .1 .0) (c .before .before .before .before .before .before .args .text .now))
-got-n c = sym (c .before .before .before .field .ensures) ∙ ap (seen (c .before .before .before .before .before .before .args .text .now)) (c .before .n .given .1)
+got-n c = sym (c .before .before .before .field .ensures) ∙ ap (takenFrom (c .before .before .before .before .before .before .args .text .now)) (c .before .n .given .1)
 
 got-imm : (c : tie.After-known-told2) → fieldOf (bytes ", #") 65535 (drop (c .before .before .before .before .before .before .n .given .0 .1 .0) (c .before .before .before .before .before .before .before .before .before .before .before .args .text .now)) ≡ taken (c .before .imm .given .0 .0) (drop (c .before .imm .given .0 .1 .0) (c .before .before .before .before .before .before .before .before .before .before .before .args .text .now))
-got-imm c = sym (c .before .before .before .field2 .ensures) ∙ ap (seen (c .before .before .before .before .before .before .before .before .before .before .before .args .text .now)) (c .before .imm .given .1)
+got-imm c = sym (c .before .before .before .field2 .ensures) ∙ ap (takenFrom (c .before .before .before .before .before .before .before .before .before .before .before .args .text .now)) (c .before .imm .given .1)
 
 none-1 : (c : tie.After-enum-told) → fieldOf (bytes "R") 255 (drop (c .before .before .before .before .before .args .at) (c .before .before .before .before .before .args .text .now)) ≡ missing
-none-1 c = sym (c .before .before .field .ensures) ∙ ap (seen (c .before .before .before .before .before .args .text .now)) (c .enum-told .given .1)
+none-1 c = sym (c .before .before .field .ensures) ∙ ap (takenFrom (c .before .before .before .before .before .args .text .now)) (c .enum-told .given .1)
 
 none-2 : (c : tie.After-enum-told2) → fieldOf (bytes ", #") 65535 (drop (c .before .before .before .before .before .n .given .0 .1 .0) (c .before .before .before .before .before .before .before .before .before .before .args .text .now)) ≡ missing
-none-2 c = sym (c .before .before .field2 .ensures) ∙ ap (seen (c .before .before .before .before .before .before .before .before .before .before .args .text .now)) (c .enum-told2 .given .1)
+none-2 c = sym (c .before .before .field2 .ensures) ∙ ap (takenFrom (c .before .before .before .before .before .before .before .before .before .before .args .text .now)) (c .enum-told2 .given .1)
 
 whole : (c : tie.After-known-told2) → immediateOf (c .before .before .before .before .before .before .before .before .before .before .before .args .opcode) (drop (c .before .before .before .before .before .before .before .before .before .before .before .args .at) (c .before .before .before .before .before .before .before .before .before .before .before .args .text .now)) ≡ finished (encodeOf (c .before .before .before .before .before .before .before .before .before .before .before .args .opcode) (operands.Immediate (c .before .before .before .before .before .before .n .given .0 .0) (c .before .imm .given .0 .0))) (drop (c .before .imm .given .0 .1 .0) (c .before .before .before .before .before .before .before .before .before .before .before .args .text .now))
 unfolding immediateOf

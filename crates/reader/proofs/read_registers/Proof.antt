@@ -7,29 +7,29 @@ use lib.ListN.{drop}
 use Rattle.cell.specs.Cell.{Reply, encodeOf}
 use Rattle.cell.specs.declared.Operands.the-variants as operands
 use Rattle.text.specs.Text.{bytes}
-use Rattle.reader.specs.Reading.{seen, taken, missing, fieldOf, finished, registersOf}
+use Rattle.reader.specs.Reading.{takenFrom, taken, missing, fieldOf, finished, registersOf}
 use Rattle.reader.proofs.Numbers.{field-true}
 use Rattle.reader.proofs.read_registers.Statement.{statement}
 use Rattle.reader.proofs.read_registers.Tie as tie
 
 -- what each field's answer says of the text
 got-n : (c : tie.After-known-told) → fieldOf (bytes "R") 255 (drop (c .before .before .before .before .before .before .args .at) (c .before .before .before .before .before .before .args .text .now)) ≡ taken (c .before .n .given .0 .0) (drop (c .before .n .given .0 .1 .0) (c .before .before .before .before .before .before .args .text .now))
-got-n c = sym (c .before .before .before .field .ensures) ∙ ap (seen (c .before .before .before .before .before .before .args .text .now)) (c .before .n .given .1)
+got-n c = sym (c .before .before .before .field .ensures) ∙ ap (takenFrom (c .before .before .before .before .before .before .args .text .now)) (c .before .n .given .1)
 
 got-m : (c : tie.After-known-told2) → fieldOf (bytes ", R") 255 (drop (c .before .before .before .before .before .before .n .given .0 .1 .0) (c .before .before .before .before .before .before .before .before .before .before .before .args .text .now)) ≡ taken (c .before .m .given .0 .0) (drop (c .before .m .given .0 .1 .0) (c .before .before .before .before .before .before .before .before .before .before .before .args .text .now))
-got-m c = sym (c .before .before .before .field2 .ensures) ∙ ap (seen (c .before .before .before .before .before .before .before .before .before .before .before .args .text .now)) (c .before .m .given .1)
+got-m c = sym (c .before .before .before .field2 .ensures) ∙ ap (takenFrom (c .before .before .before .before .before .before .before .before .before .before .before .args .text .now)) (c .before .m .given .1)
 
 got-l : (c : tie.After-known-told3) → fieldOf (bytes ", R") 255 (drop (c .before .before .before .before .before .before .m .given .0 .1 .0) (c .before .before .before .before .before .before .before .before .before .before .before .before .before .before .before .before .args .text .now)) ≡ taken (c .before .l .given .0 .0) (drop (c .before .l .given .0 .1 .0) (c .before .before .before .before .before .before .before .before .before .before .before .before .before .before .before .before .args .text .now))
-got-l c = sym (c .before .before .before .field3 .ensures) ∙ ap (seen (c .before .before .before .before .before .before .before .before .before .before .before .before .before .before .before .before .args .text .now)) (c .before .l .given .1)
+got-l c = sym (c .before .before .before .field3 .ensures) ∙ ap (takenFrom (c .before .before .before .before .before .before .before .before .before .before .before .before .before .before .before .before .args .text .now)) (c .before .l .given .1)
 
 none-1 : (c : tie.After-enum-told) → fieldOf (bytes "R") 255 (drop (c .before .before .before .before .before .args .at) (c .before .before .before .before .before .args .text .now)) ≡ missing
-none-1 c = sym (c .before .before .field .ensures) ∙ ap (seen (c .before .before .before .before .before .args .text .now)) (c .enum-told .given .1)
+none-1 c = sym (c .before .before .field .ensures) ∙ ap (takenFrom (c .before .before .before .before .before .args .text .now)) (c .enum-told .given .1)
 
 none-2 : (c : tie.After-enum-told2) → fieldOf (bytes ", R") 255 (drop (c .before .before .before .before .before .n .given .0 .1 .0) (c .before .before .before .before .before .before .before .before .before .before .args .text .now)) ≡ missing
-none-2 c = sym (c .before .before .field2 .ensures) ∙ ap (seen (c .before .before .before .before .before .before .before .before .before .before .args .text .now)) (c .enum-told2 .given .1)
+none-2 c = sym (c .before .before .field2 .ensures) ∙ ap (takenFrom (c .before .before .before .before .before .before .before .before .before .before .args .text .now)) (c .enum-told2 .given .1)
 
 none-3 : (c : tie.After-enum-told3) → fieldOf (bytes ", R") 255 (drop (c .before .before .before .before .before .m .given .0 .1 .0) (c .before .before .before .before .before .before .before .before .before .before .before .before .before .before .before .args .text .now)) ≡ missing
-none-3 c = sym (c .before .before .field3 .ensures) ∙ ap (seen (c .before .before .before .before .before .before .before .before .before .before .before .before .before .before .before .args .text .now)) (c .enum-told3 .given .1)
+none-3 c = sym (c .before .before .field3 .ensures) ∙ ap (takenFrom (c .before .before .before .before .before .before .before .before .before .before .before .before .before .before .before .args .text .now)) (c .enum-told3 .given .1)
 
 whole : (c : tie.After-known-told3) → registersOf (c .before .before .before .before .before .before .before .before .before .before .before .before .before .before .before .before .args .opcode) (drop (c .before .before .before .before .before .before .before .before .before .before .before .before .before .before .before .before .args .at) (c .before .before .before .before .before .before .before .before .before .before .before .before .before .before .before .before .args .text .now)) ≡ finished (encodeOf (c .before .before .before .before .before .before .before .before .before .before .before .before .before .before .before .before .args .opcode) (operands.Registers (c .before .before .before .before .before .before .before .before .before .before .before .n .given .0 .0) (c .before .before .before .before .before .before .m .given .0 .0) (c .before .l .given .0 .0))) (drop (c .before .l .given .0 .1 .0) (c .before .before .before .before .before .before .before .before .before .before .before .before .before .before .before .before .args .text .now))
 unfolding registersOf

@@ -1,5 +1,6 @@
 -- `step::advance` meets its contract: at each return the tests that led there are those before a step, in their order; what was considered tells the rest.
-use Rattle.effect.specs.Inner.{movingOf, writingOf, storingOf, splittingOf, swappingOf, meant, toldOf}
+use Rattle.effect.specs.Becomes.{becameOf}
+use Rattle.effect.specs.Answers.{movingOf, writingOf, storingOf, splittingOf, swappingOf, meant}
 use Rattle.step.proofs.Steps.{read-as, refused-with, at-end, off-cells, full, looked-at, refused-by, safe-does, does-step}
 use mathlib.Core.Path.{_≡_, refl, _∙_}
 use Prim.Native.Nat.{_<_}
@@ -26,7 +27,7 @@ below c = has-room _ _ _ (c .before .before .before .before .before .capacity .e
 looked : (c : tie.After-consider) → refusalOf (state (start c)) ≡ refusedBy (actionIn (state (start c))) (state (start c))
 looked c = looked-at (state (start c)) (c .before .before .before .before .before .before .before .if1 .left) (c .before .before .before .before .before .before .if2 .left) (below c)
 
-considering : (c : tie.After-consider) → meant (start c .args .s) (c .consider .result) ≡ toldOf (actionIn (state (start c))) (state (start c))
+considering : (c : tie.After-consider) → meant (start c .args .s) (c .consider .result) ≡ becameOf (actionIn (state (start c))) (state (start c))
 considering c = c .consider .ensures (start c .args .depth) (start c .args .journal .now)
 
 element-copy-out-pc : tie.Need-element-copy-out-pc
@@ -95,8 +96,8 @@ enum-known-considered-3 c = search needs
 stores-requires : tie.Need-stores-requires
 stores-requires c κs = let k = c .before .before .before .before .before .before in
     let w = c .before .before .before .before .considered3 .given .0 .0 in
-    let told : k .consider .result ≡ Stores w = search needs in
-    let safe = safe-does (state (start k)) (looked k) (storingOf w (start k .args .s)) (read-as _ _ (Stores w) _ told (considering k)) in
+    let became : k .consider .result ≡ Stores w = search needs in
+    let safe = safe-does (state (start k)) (looked k) (storingOf w (start k .args .s)) (read-as _ _ (Stores w) _ became (considering k)) in
     (below k, safe .store refl .1)
 
 enum-known-considered-4 : tie.Need-enum-known-considered-4
@@ -140,8 +141,8 @@ same-length-4 c = search needs
 returns-6 : tie.Need-returns-6
 returns-6 c = let k = c .before .before .before .before .before .before .before .before in
     let w = c .before .before .before .before .before .before .considered .given .0 .0 in
-    let told : k .consider .result ≡ Still w = search needs in
-    c .before .before .moves .ensures (start k .args .cells .now) ∙ does-step (state (start k)) (looked k) (movingOf w (start k .args .s)) (read-as _ _ (Still w) _ told (considering k))
+    let became : k .consider .result ≡ Still w = search needs in
+    c .before .before .moves .ensures (start k .args .cells .now) ∙ does-step (state (start k)) (looked k) (movingOf w (start k .args .s)) (read-as _ _ (Still w) _ became (considering k))
 
 same-length-5 : tie.Need-same-length-5
 same-length-5 c = search needs
@@ -152,8 +153,8 @@ same-length-6 c = search needs
 returns-7 : tie.Need-returns-7
 returns-7 c = let k = c .before .before .before .before .before .before .before .before in
     let w = c .before .before .before .before .before .before .considered2 .given .0 .0 in
-    let told : k .consider .result ≡ Writes w = search needs in
-    c .before .before .writes .ensures (start k .args .cells .now) ∙ does-step (state (start k)) (looked k) (writingOf w (start k .args .s)) (read-as _ _ (Writes w) _ told (considering k))
+    let became : k .consider .result ≡ Writes w = search needs in
+    c .before .before .writes .ensures (start k .args .cells .now) ∙ does-step (state (start k)) (looked k) (writingOf w (start k .args .s)) (read-as _ _ (Writes w) _ became (considering k))
 
 same-length-7 : tie.Need-same-length-7
 same-length-7 c = search needs
@@ -164,8 +165,8 @@ same-length-8 c = search needs
 returns-8 : tie.Need-returns-8
 returns-8 c = let k = c .before .before .before .before .before .before .before .before .before .before .before in
     let w = c .before .before .before .before .before .before .before .before .before .considered3 .given .0 .0 in
-    let told : k .consider .result ≡ Stores w = search needs in
-    c .before .before .before .before .stores .ensures ∙ does-step (state (start k)) (looked k) (storingOf w (start k .args .s)) (read-as _ _ (Stores w) _ told (considering k))
+    let became : k .consider .result ≡ Stores w = search needs in
+    c .before .before .before .before .stores .ensures ∙ does-step (state (start k)) (looked k) (storingOf w (start k .args .s)) (read-as _ _ (Stores w) _ became (considering k))
 
 same-length-9 : tie.Need-same-length-9
 same-length-9 c = search needs
@@ -176,8 +177,8 @@ same-length-10 c = search needs
 returns-9 : tie.Need-returns-9
 returns-9 c = let k = c .before .before .before .before .before .before .before .before in
     let w = c .before .before .before .before .before .before .considered4 .given .0 .0 in
-    let told : k .consider .result ≡ Splits w = search needs in
-    c .before .before .splits .ensures (start k .args .cells .now) ∙ does-step (state (start k)) (looked k) (splittingOf w (start k .args .s)) (read-as _ _ (Splits w) _ told (considering k))
+    let became : k .consider .result ≡ Splits w = search needs in
+    c .before .before .splits .ensures (start k .args .cells .now) ∙ does-step (state (start k)) (looked k) (splittingOf w (start k .args .s)) (read-as _ _ (Splits w) _ became (considering k))
 
 same-length-11 : tie.Need-same-length-11
 same-length-11 c = search needs
@@ -188,8 +189,8 @@ same-length-12 c = search needs
 returns-10 : tie.Need-returns-10
 returns-10 c = let k = c .before .before .before .before .before .before .before .before in
     let w = c .before .before .before .before .before .before .considered5 .given .0 .0 in
-    let told : k .consider .result ≡ Swaps w = search needs in
-    c .before .before .swaps .ensures (start k .args .cells .now) ∙ does-step (state (start k)) (looked k) (swappingOf w (start k .args .s)) (read-as _ _ (Swaps w) _ told (considering k))
+    let became : k .consider .result ≡ Swaps w = search needs in
+    c .before .before .swaps .ensures (start k .args .cells .now) ∙ does-step (state (start k)) (looked k) (swappingOf w (start k .args .s)) (read-as _ _ (Swaps w) _ became (considering k))
 
 same-length-13 : tie.Need-same-length-13
 same-length-13 c = search needs
@@ -200,8 +201,8 @@ same-length-14 c = search needs
 returns-11 : tie.Need-returns-11
 returns-11 c = let k = c .before .before .before .before .before .before .before .before .before .before .before in
     let x = c .before .before .before .before .before .before .before .before .before .considered6 .given .0 in
-    let told : k .consider .result ≡ Does (x .0) = search needs in
-    c .before .before .before .before .does .ensures ∙ does-step (state (start k)) (looked k) (x .0) (read-as _ _ (Does (x .0)) _ told (considering k))
+    let became : k .consider .result ≡ Does (x .0) = search needs in
+    c .before .before .before .before .does .ensures ∙ does-step (state (start k)) (looked k) (x .0) (read-as _ _ (Does (x .0)) _ became (considering k))
 
 pub advance-spec : {M : Type 1} → statement M
 advance-spec =

@@ -2,7 +2,7 @@
 use borrow.Author.Tests.{ne-eqb}
 use Rattle.effect.specs.Effect.{effectOf}
 use Rattle.effect.specs.Refusal.{refusedBy}
-use Rattle.effect.specs.Inner.{toldOf}
+use Rattle.effect.specs.Becomes.{becameOf}
 use Rattle.effect.proofs.Opcodes.{cpswp, transfers, ldli, ldui, ldliz, ldlise, ldlif, split, fsplit, branches, int, all-others}
 use borrow.Author.Needs.{needs}
 use Rattle.effect.proofs.instruction.consider.Statement.{statement}
@@ -105,45 +105,45 @@ operated-requires : tie.Need-operated-requires
 operated-requires c κs = search needs
 
 returns : tie.Need-returns
-unfolding toldOf refusedBy effectOf
+unfolding becameOf refusedBy effectOf
 returns c = λ depth journal. rw (cpswp _ (rw (c .before .before .before .before .bits-of .ensures) at (c .match .keys1)), c .before .before .first .ensures, c .match .keys1, c .before .before .before .operand .ensures, c .before .before .before .before .before .wrapping-add-u32 .ensures, c .before .before .before .before .bits-of .ensures)
 
 returns-2 : tie.Need-returns-2
 returns-2 c = λ depth journal. rw (c .transfer .ensures, c .before .before .before .first .ensures, c .before .before .second .ensures, c .before .match .keys2, c .before .before .before .before .operand .ensures, c .before .before .before .before .before .before .wrapping-add-u32 .ensures, c .before .before .before .before .before .bits-of .ensures) (transfers _ _ (rw (c .before .before .before .before .before .bits-of .ensures) at (c .before .match .keys2)))
 
 returns-3 : tie.Need-returns-3
-unfolding toldOf refusedBy effectOf
+unfolding becameOf refusedBy effectOf
 returns-3 c = λ depth journal. rw (ldli _ (rw (c .before .before .before .before .before .bits-of .ensures) at (c .before .match .keys3)), c .writes .ensures, c .before .before .before .before .operand .ensures, c .before .before .before .before .before .before .wrapping-add-u32 .ensures, c .before .before .before .before .before .bits-of .ensures)
 
 returns-4 : tie.Need-returns-4
-unfolding toldOf refusedBy effectOf
+unfolding becameOf refusedBy effectOf
 returns-4 c = λ depth journal. rw (ldui _ (rw (c .before .before .before .before .before .bits-of .ensures) at (c .before .match .keys4)), c .writes2 .ensures, c .before .before .before .before .operand .ensures, c .before .before .before .before .before .before .wrapping-add-u32 .ensures, c .before .before .before .before .before .bits-of .ensures)
 
 returns-5 : tie.Need-returns-5
-unfolding toldOf refusedBy effectOf
+unfolding becameOf refusedBy effectOf
 returns-5 c = λ depth journal. rw (ldliz _ (rw (c .before .before .before .before .before .bits-of .ensures) at (c .before .match .keys5)), c .writes3 .ensures, c .before .before .before .before .before .before .wrapping-add-u32 .ensures, c .before .before .before .before .before .bits-of .ensures)
 
 returns-6 : tie.Need-returns-6
-unfolding toldOf refusedBy effectOf
+unfolding becameOf refusedBy effectOf
 returns-6 c = λ depth journal. rw (ldlise _ (rw (c .before .before .before .before .before .before .bits-of .ensures) at (c .before .before .match .keys6)), c .writes4 .ensures, c .before .se .ensures, c .before .before .before .before .before .before .before .wrapping-add-u32 .ensures, c .before .before .before .before .before .before .bits-of .ensures)
 
 returns-7 : tie.Need-returns-7
-unfolding toldOf refusedBy effectOf
+unfolding becameOf refusedBy effectOf
 returns-7 c = λ depth journal. rw (ldlif _ (rw (c .before .before .before .before .before .before .bits-of .ensures) at (c .before .before .match .keys7)), c .writes5 .ensures, c .before .ex .ensures, c .before .before .before .before .before .before .before .wrapping-add-u32 .ensures, c .before .before .before .before .before .before .bits-of .ensures)
 
 returns-8 : tie.Need-returns-8
-unfolding toldOf refusedBy effectOf
+unfolding becameOf refusedBy effectOf
 returns-8 c = λ depth journal. rw (split _ (rw (c .before .before .before .before .before .before .bits-of .ensures) at (c .before .before .match .keys8)), c .before .se2 .ensures, c .se3 .ensures, c .before .before .before .before .before .operand .ensures, c .before .before .before .before .before .before .before .wrapping-add-u32 .ensures, c .before .before .before .before .before .before .bits-of .ensures)
 
 returns-9 : tie.Need-returns-9
-unfolding toldOf refusedBy effectOf
+unfolding becameOf refusedBy effectOf
 returns-9 c = λ depth journal. rw (fsplit _ (rw (c .before .before .before .before .before .before .bits-of .ensures) at (c .before .before .match .keys9)), c .before .ex2 .ensures, c .ex3 .ensures, c .before .before .before .before .before .operand .ensures, c .before .before .before .before .before .before .before .wrapping-add-u32 .ensures, c .before .before .before .before .before .before .bits-of .ensures)
 
 returns-10 : tie.Need-returns-10
 returns-10 c = λ depth journal. rw (c .branch .ensures, c .before .before .before .before .operand .ensures, c .before .before .before .before .before .before .wrapping-add-u32 .ensures, c .before .before .before .before .before .bits-of .ensures) (branches _ _ (rw (c .before .before .before .before .before .bits-of .ensures) at (c .before .match .keys10)))
 
 returns-11 : tie.Need-returns-11
-unfolding toldOf refusedBy effectOf
+unfolding becameOf refusedBy effectOf
 returns-11 c = λ depth journal. rw (int _ (rw (c .before .before .before .before .before .bits-of .ensures) at (c .before .match .keys11)), c .int .ensures, c .before .before .before .before .operand .ensures, c .before .before .before .before .before .before .wrapping-add-u32 .ensures, c .before .before .before .before .before .bits-of .ensures)
 
 returns-12 : tie.Need-returns-12

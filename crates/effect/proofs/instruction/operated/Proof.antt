@@ -19,17 +19,17 @@ is-float-requires : tie.Need-is-float-requires
 is-float-requires c κs = search needs
 
 returns : tie.Need-returns
-returns c = let told = sym (c .before .before .enum-told .given .1) ∙ c .before .before .before .before .operate .ensures in
-    rw (← told, ← c .before .is-float .ensures, c .if1 .taken)
+returns c = let became = sym (c .before .before .enum-told .given .1) ∙ c .before .before .before .before .operate .ensures in
+    rw (← became, ← c .before .is-float .ensures, c .if1 .taken)
 
 returns-2 : tie.Need-returns-2
 unfolding flagsOf
-returns-2 c = let told : c .before .before .before .before .before .before .operate .result ≡ Wrote (c .before .before .before .before .done .given .0 .0) = search needs in
-    rw (← c .before .before .before .before .before .before .operate .ensures, told)
+returns-2 c = let became : c .before .before .before .before .before .before .operate .result ≡ Wrote (c .before .before .before .before .done .given .0 .0) = search needs in
+    rw (← c .before .before .before .before .before .before .operate .ensures, became)
 
 returns-3 : tie.Need-returns-3
-returns-3 c = let told = sym (c .before .before .before .enum-told .given .1) ∙ c .before .before .before .before .before .operate .ensures in
-    rw (← told, ← c .before .before .is-float .ensures, c .before .if1 .left)
+returns-3 c = let became = sym (c .before .before .before .enum-told .given .1) ∙ c .before .before .before .before .before .operate .ensures in
+    rw (← became, ← c .before .before .is-float .ensures, c .before .if1 .left)
 
 pub operated-spec : {M : Type 1} → statement M
 operated-spec =

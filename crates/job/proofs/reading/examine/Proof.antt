@@ -5,7 +5,7 @@ use lib.ListN.{length}
 use borrow.Author.Needs.{needs}
 use mathlib.Core.Path.{_≡_}
 use native.Mathlib.Omega.{arith}
-use Rattle.job.proofs.Walk.{head-there, Underway, set-out, as-looked, refused-at, more-after, none-after, onward-size, again}
+use Rattle.job.proofs.Walk.{head-there, Underway, set-out, as-looked, refused-at, more-after, none-after, further-size, again}
 use Rattle.job.specs.declared.reading.Look.the-variants.{Bad, Last, Next}
 use Rattle.job.proofs.reading.examine.Statement.{statement}
 use Rattle.job.proofs.reading.examine.Tie as tie
@@ -59,12 +59,12 @@ enum-known-looked-2 c = search needs
 
 add-at : tie.Need-add-at Inv-loop μ-loop
 add-at c = let told : c .before .before .before .look-at .result ≡ Next (c .before .looked2 .given .0 .0) (c .before .looked2 .given .0 .1 .0) = search needs in
-    let s = onward-size (c .before .before .before .before .before .before .before .args .m) (c .before .before .before .before .before .before .before .args .job .now) (c .before .before .before .before .before .loop .at) (c .before .before .before .before .before .loop .past) (c .before .before .before .before .before .loop .inv) (c .before .looked2 .given .0 .0) (c .before .looked2 .given .0 .1 .0) (as-looked _ _ (c .before .before .before .before .before .before .before .args .job .now) (c .before .before .before .before .before .loop .at) _ _ told (c .before .before .before .look-at .ensures)) in
+    let s = further-size (c .before .before .before .before .before .before .before .args .m) (c .before .before .before .before .before .before .before .args .job .now) (c .before .before .before .before .before .loop .at) (c .before .before .before .before .before .loop .past) (c .before .before .before .before .before .loop .inv) (c .before .looked2 .given .0 .0) (c .before .looked2 .given .0 .1 .0) (as-looked _ _ (c .before .before .before .before .before .before .before .args .job .now) (c .before .before .before .before .before .loop .at) _ _ told (c .before .before .before .look-at .ensures)) in
     omega arith
 
 loop-less : tie.Need-loop-less Inv-loop μ-loop
 loop-less c = let told : c .before .before .before .look-at .result ≡ Next (c .before .looked2 .given .0 .0) (c .before .looked2 .given .0 .1 .0) = search needs in
-    let s = onward-size (c .before .before .before .before .before .before .before .args .m) (c .before .before .before .before .before .before .before .args .job .now) (c .before .before .before .before .before .loop .at) (c .before .before .before .before .before .loop .past) (c .before .before .before .before .before .loop .inv) (c .before .looked2 .given .0 .0) (c .before .looked2 .given .0 .1 .0) (as-looked _ _ (c .before .before .before .before .before .before .before .args .job .now) (c .before .before .before .before .before .loop .at) _ _ told (c .before .before .before .look-at .ensures)) in
+    let s = further-size (c .before .before .before .before .before .before .before .args .m) (c .before .before .before .before .before .before .before .args .job .now) (c .before .before .before .before .before .loop .at) (c .before .before .before .before .before .loop .past) (c .before .before .before .before .before .loop .inv) (c .before .looked2 .given .0 .0) (c .before .looked2 .given .0 .1 .0) (as-looked _ _ (c .before .before .before .before .before .before .before .args .job .now) (c .before .before .before .before .before .loop .at) _ _ told (c .before .before .before .look-at .ensures)) in
     omega arith
 
 loop-again : tie.Need-loop-again Inv-loop μ-loop
