@@ -133,11 +133,11 @@ pub number-once : (x : Stop) (r t : ℕ) → r ≡ saidOf x .number → t ≡ sa
 number-once x r t = unique
 
 -- the answers on M, on settings and on a journal, and a journal's word of settings
-pub enough-once : (m : ℕ) (r t : Bool) → r ≡ not (badCells m) → t ≡ not (badCells m) → r ≡ t
-enough-once m r t = unique
+pub cells-once : (m : ℕ) (r t : Bool) → r ≡ not (badCells m) → t ≡ not (badCells m) → r ≡ t
+cells-once m r t = unique
 
-pub range-once : (s : Settings) (r t : Bool) → r ≡ not (badSettings s) → t ≡ not (badSettings s) → r ≡ t
-range-once s r t = unique
+pub settings-once : (s : Settings) (r t : Bool) → r ≡ not (badSettings s) → t ≡ not (badSettings s) → r ≡ t
+settings-once s r t = unique
 
 pub capacity-once : (words r t : ℕ) → r ≡ entriesIn words → t ≡ entriesIn words → r ≡ t
 capacity-once words r t = unique
