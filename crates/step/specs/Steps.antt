@@ -3,7 +3,7 @@ use Prim.Native.Nat.{ℕ, zero, suc}
 use Rattle.machine.specs.State.{State}
 use Rattle.step.specs.Step.{Course, stepOf}
 
--- a step that is refused leaves all as it was, so that steps stand still where the definition does
+-- a refused step leaves the state as it was, and so do all steps after it
 unfoldable pub steps : ℕ → State → State
 steps zero s = s
 steps (suc n) s = stepOf (steps n s) .state
