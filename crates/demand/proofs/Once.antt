@@ -41,11 +41,12 @@ use Rattle.machine.specs.declared.Machine.{Machine}
 use Rattle.runner.specs.declared.Ran.{Ran}
 use Rattle.machine.specs.declared.Stop.{Stop}
 use Rattle.machine.specs.State.{State, freshMachine, stateOf, stateWith, badCells, badSettings, entriesIn, writeIf}
+use Rattle.packed.specs.Packed.{packedOf, unpackedOf}
 use Rattle.effect.specs.declared.Write.{Write}
 use Rattle.effect.specs.declared.Store.{Store}
 use Rattle.journal.specs.declared.Returned.{Returned}
 use Rattle.journal.specs.declared.Entry.{Entry}
-use Rattle.journal.specs.Words.{packedOf, startOf, entryWith}
+use Rattle.journal.specs.Words.{startOf, entryWith}
 use Rattle.journal.specs.Journal.{entered, takenBack}
 use Rattle.journal.specs.Answers.{returnedOf}
 use Rattle.journal.proofs.Named as returns
@@ -132,7 +133,7 @@ fresh-once r t = unique
 pub number-once : (x : Stop) (r t : ℕ) → r ≡ saidOf x .number → t ≡ saidOf x .number → r ≡ t
 number-once x r t = unique
 
--- the answers on M, on settings and on a journal, and a journal's word of settings
+-- the answers on M, on settings and on a journal
 pub cells-once : (m : ℕ) (r t : Bool) → r ≡ not (badCells m) → t ≡ not (badCells m) → r ≡ t
 cells-once m r t = unique
 
@@ -142,8 +143,12 @@ settings-once s r t = unique
 pub capacity-once : (words r t : ℕ) → r ≡ entriesIn words → t ≡ entriesIn words → r ≡ t
 capacity-once words r t = unique
 
-pub packed-once : (s : Settings) (r t : ℕ) → r ≡ packedOf s → t ≡ packedOf s → r ≡ t
-packed-once s r t = unique
+-- the word of settings, and the settings of a word
+pub pack-once : (s : Settings) (r t : ℕ) → r ≡ packedOf s → t ≡ packedOf s → r ≡ t
+pack-once s r t = unique
+
+pub unpack-once : (s : ℕ) (r t : Settings) → r ≡ unpackedOf s → t ≡ unpackedOf s → r ≡ t
+unpack-once s r t = unique
 
 pub start-once : (depth r t : ℕ) → r ≡ startOf depth → t ≡ startOf depth → r ≡ t
 start-once depth r t = unique

@@ -6,6 +6,7 @@ use mathlib.Core.Bool.{Bool, false, _||_}
 use lib.Dec.{leb, ltb}
 use borrow.Author.Tests.{leb-false}
 use Rattle.machine.proofs.Tests.{or-left, or-right}
+use Rattle.packed.specs.Packed.{packedBound}
 use Rattle.journal.specs.declared.Entry.{Entry}
 use Rattle.journal.specs.Journal.{damagedOf}
 
@@ -15,4 +16,4 @@ third a b c d e h = or-right (a || b) c (or-left (a || b || c) d (or-left (a || 
 module _ (m : ℕ) (e : Entry) (whole : damagedOf m e ≡ false) where
   pub numbered : e .numbers < 65536
   unfolding damagedOf
-  numbered = leb-false _ _ (third (leb m (e .pc)) (leb 1048576 (e .settings)) (leb 65536 (e .numbers)) (ltb 7 (e .uses)) _ whole)
+  numbered = leb-false _ _ (third (leb m (e .pc)) (leb packedBound (e .settings)) (leb 65536 (e .numbers)) (ltb 7 (e .uses)) _ whole)

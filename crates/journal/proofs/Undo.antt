@@ -14,10 +14,11 @@ use lib.Dec.{leb, ltb, eqb}
 use borrow.Author.Tests.{lt-leb, le-ltb, le-leb, lt-ltb}
 use Rattle.effect.specs.declared.Write.{Write}
 use Rattle.effect.specs.declared.Effect.{Effect}
-use Rattle.machine.specs.declared.Settings.{Settings}
-use Rattle.machine.specs.State.{flagsBound, pcOf, InRange, State}
+use Rattle.machine.specs.State.{pcOf, InRange, State}
+use Rattle.packed.specs.Packed.{unpackedOf, packedBound}
+use Rattle.packed.proofs.Laws.{packed-below, unpacked-packed}
 use Rattle.journal.specs.declared.Entry.{Entry}
-use Rattle.journal.specs.Words.{ifUsed, eightOf, entryIn, packedOf, settingsBefore}
+use Rattle.journal.specs.Words.{ifUsed, eightOf, entryIn}
 use Rattle.journal.specs.Journal.{writesIn, regsAfter, cellsAfter, entryOf, applyOf, lastOf, damagedOf, regsBefore, cellsBefore, undoOf}
 use Rattle.journal.proofs.Lists.{length-writeIf, miss, mended, writeIf-ifUsed, ifUsed-lt, writeIf-back, take-sets, take-to-sets, read-sets, drop-sets, read-known, take-known, getD-outside}
 use Rattle.journal.proofs.Words.{word}
@@ -116,11 +117,6 @@ in-memory : (u : Bool) (i m : ℕ) → (u ≡ true → (1 ≤ i) × (i < m)) →
 in-memory true i m h = rw (le-leb 1 i (h refl .0), lt-ltb i m (h refl .1))
 in-memory false i m h = refl
 
--- settings in range lose nothing in word 1
-pub packed-in : (s : Settings) → InRange s → packedOf s ≡ s .flags + 512 * s .mask + 262144 * s .mode
-unfolding packedOf
-packed-in s l = omega arith
-
 module _ (e : Effect) (s : State) (w : Formed e s) where
   -- word 2 gives a and b back, and word 7 which parts are used
   first : (ifUsed (e .a .used) (e .a .number) + 256 * ifUsed (e .b .used) (e .b .number)) % 256 ≡ ifUsed (e .a .used) (e .a .number)
@@ -145,18 +141,13 @@ module _ (e : Effect) (s : State) (w : Formed e s) where
       (writeIf-back (e .store .used) (s .cells) (e .store .address) (e .store .value))
 
   module _ (l : InRange (s .settings)) where
-    settings-back : settingsBefore (left e s) ≡ s .settings
-    unfolding settingsBefore entryOf
-    settings-back =
-        let f : (s .settings .flags + 512 * s .settings .mask + 262144 * s .settings .mode) % 512 ≡ s .settings .flags = omega arith in
-        let d : (s .settings .flags + 512 * s .settings .mask + 262144 * s .settings .mode) / 512 ≡ s .settings .mask + 512 * s .settings .mode = omega arith in
-        let m : (s .settings .mask + 512 * s .settings .mode) % 512 ≡ s .settings .mask = omega arith in
-        let o : (s .settings .flags + 512 * s .settings .mask + 262144 * s .settings .mode) / 262144 ≡ s .settings .mode = omega arith in
-        rw (packed-in (s .settings) l) (rw (f, d, m, o))
-
-    word1 : left e s .settings < 4 * flagsBound * flagsBound
+    settings-back : unpackedOf (left e s .settings) ≡ s .settings
     unfolding entryOf
-    word1 = rw (packed-in (s .settings) l) (omega arith)
+    settings-back = unpacked-packed (s .settings) l
+
+    word1 : left e s .settings < packedBound
+    unfolding entryOf
+    word1 = packed-below (s .settings) l
 
     word2 : left e s .numbers < 65536
     unfolding entryOf

@@ -1,5 +1,5 @@
 -- Applying an effect, which leaves an entry, and going back by the last one: document 01, 'The journal entry'.
-use Prim.Native.Nat.{ℕ, _+_, _-_, _*_}
+use Prim.Native.Nat.{ℕ, _+_, _-_}
 use mathlib.Core.Bool.{Bool, true, false, cond, not, _&&_, _||_}
 use mathlib.Core.Option.{Option, none, some}
 use mathlib.Core.List.{List}
@@ -8,11 +8,12 @@ use lib.Dec.{leb, ltb, eqb}
 use lib.ListN.{length, getD, set, take, drop}
 use lib.Seq.{sets}
 use Rattle.machine.specs.declared.Settings.{Settings}
-use Rattle.machine.specs.State.{State, writeIf, flagsBound, firstSpecial, pcOf}
+use Rattle.machine.specs.State.{State, writeIf, firstSpecial, pcOf}
+use Rattle.packed.specs.Packed.{unpackedOf, packedBound}
 use Rattle.effect.specs.declared.Write.{Write}
 use Rattle.effect.specs.declared.Effect.{Effect}
 use Rattle.journal.specs.declared.Entry.{Entry}
-use Rattle.journal.specs.Words.{eightOf, entryIn, startOf, entryWith, numberA, numberB, usesA, usesB, usesStore, settingsBefore}
+use Rattle.journal.specs.Words.{eightOf, entryIn, startOf, entryWith, numberA, numberB, usesA, usesB, usesStore}
 
 -- a, then b; or b first
 abbrev pub writesIn : Bool → Write → Write → List ℕ → List ℕ
@@ -60,7 +61,7 @@ lastOf journal depth = entryIn (take 8 (drop (startOf (depth - 1)) journal))
 unfoldable pub damagedOf : ℕ → Entry → Bool
 damagedOf m e =
     leb m (e .pc)
-    || leb (4 * flagsBound * flagsBound) (e .settings)
+    || leb packedBound (e .settings)
     || leb 65536 (e .numbers)
     || ltb 7 (e .uses)
     || (usesStore e && not (leb 1 (e .address) && ltb (e .address) m))
@@ -75,7 +76,7 @@ cellsBefore e cells = writeIf (usesStore e) cells (e .address) (e .old)
 abbrev pub restoreOf : Entry → State → State
 restoreOf e s = record {
   regs = regsBefore e (s .regs);
-  settings = settingsBefore e;
+  settings = unpackedOf (e .settings);
   depth = s .depth - 1;
   cells = cellsBefore e (s .cells);
   journal = s .journal;

@@ -5,7 +5,8 @@ use mathlib.Core.List.{List, [], _∷_}
 use lib.Dec.{eqb}
 use lib.ListN.{getD}
 use Rattle.machine.specs.declared.Settings.{Settings}
-use Rattle.machine.specs.State.{flagsBound, pcOf}
+use Rattle.machine.specs.State.{pcOf}
+use Rattle.packed.specs.Packed.{packedOf}
 use Rattle.effect.specs.declared.Write.{Write}
 use Rattle.effect.specs.declared.Store.{Store}
 use Rattle.journal.specs.declared.Entry.{Entry}
@@ -30,10 +31,6 @@ entryIn words = record {
 abbrev pub startOf : ℕ → ℕ
 startOf depth = 8 * depth
 
--- Settings in one word of 32 bits; of those that a call takes nothing is lost.
-unfoldable pub packedOf : Settings → ℕ
-packedOf s = (s .flags + flagsBound * s .mask + flagsBound * flagsBound * s .mode) % 4294967296
-
 -- a part, 0 where it is not used
 abbrev pub ifUsed : Bool → ℕ → ℕ
 ifUsed true v = v
@@ -52,7 +49,7 @@ entryWith regs s a b store old = record {
   uses = ifUsed (a .used) 1 + ifUsed (b .used) 2 + ifUsed (store .used) 4;
 }
 
--- What an entry says: its registers, the parts that it uses, its settings.
+-- What an entry says: its registers, and the parts that it uses.
 abbrev pub numberA : Entry → ℕ
 numberA e = e .numbers % 256
 
@@ -67,10 +64,3 @@ usesB e = eqb (e .uses / 2 % 2) 1
 
 abbrev pub usesStore : Entry → Bool
 usesStore e = eqb (e .uses / 4 % 2) 1
-
-unfoldable pub settingsBefore : Entry → Settings
-settingsBefore e = record {
-  flags = e .settings % flagsBound;
-  mask = e .settings / flagsBound % flagsBound;
-  mode = e .settings / (flagsBound * flagsBound);
-}

@@ -4,7 +4,7 @@ ghost use Prim.Native.Nat.{_+_, _*_, _≤_, _<_};
 ghost use lib.ListN.{length, getD};
 ghost use Rattle.machine.specs.declared.Settings.{Settings};
 ghost use Rattle.machine.specs.State.{stateWith};
-ghost use Rattle.journal.specs.Words.{startOf, packedOf, ifUsed, entryWith, usesA, usesB, usesStore, settingsBefore};
+ghost use Rattle.journal.specs.Words.{startOf, ifUsed, entryWith, usesA, usesB, usesStore};
 ghost use Rattle.journal.specs.Journal.{entered, lastOf, damagedOf, regsBefore, takenBack};
 ghost use Rattle.journal.specs.Answers.{returnedOf};
 use effect::Store;
@@ -12,6 +12,9 @@ use effect::Write;
 use machine::Settings;
 use machine::write_cell;
 use machine::write_register;
+use packed::Packed;
+use packed::pack;
+use packed::unpack;
 
 // An entry: its fields are words 0 to 7. They hold what the step found, and 0 where it had no such part.
 pub struct Entry {
@@ -30,21 +33,6 @@ pub struct Entry {
 impl Entry {
     // Words of an entry.
     pub const WORDS: usize = 8;
-}
-
-// The settings' word has the flags lowest, then the mask, then the mode; of settings in range it is below 2^20.
-const MODE_UNIT: u32 = Settings::FLAGS_BOUND * Settings::FLAGS_BOUND;
-
-const PACKED_BOUND: u32 = MODE_UNIT * Settings::MODE_BOUND;
-
-// An entry's word of settings.
-pub fn packed(s: Settings) -> u32
-    ensures { λ r. ⌜ r ≡ packedOf s ⌝ }
-{
-    let sum = s.flags as u64
-        + Settings::FLAGS_BOUND as u64 * (s.mask as u64)
-        + MODE_UNIT as u64 * (s.mode as u64);
-    (sum % 4294967296) as u32
 }
 
 // A part of the entry: 0 where it is not used.
@@ -82,7 +70,7 @@ pub fn entry_of(regs: &[u32; 256], s: Settings, a: Write, b: Write, store: Store
 {
     Entry {
         pc: regs[255],
-        settings: packed(s),
+        settings: pack(s),
         numbers: number(a) + 256 * number(b),
         a: held(regs, a),
         b: held(regs, b),
@@ -159,7 +147,7 @@ fn is_damaged(m: usize, e: Entry) -> bool
     if m <= e.pc as usize {
         return true;
     }
-    if PACKED_BOUND <= e.settings {
+    if Packed::BOUND <= e.settings {
         return true;
     }
     if 65536 <= e.numbers {
@@ -189,17 +177,6 @@ fn restore_regs(regs: &mut [u32; 256], e: Entry)
     regs[255] = e.pc;
 }
 
-// The settings that an entry packs.
-fn settings_before(e: Entry) -> Settings
-    ensures { λ r. ⌜ r ≡ settingsBefore e ⌝ }
-{
-    Settings {
-        flags: e.settings % Settings::FLAGS_BOUND,
-        mask: e.settings / Settings::FLAGS_BOUND % Settings::FLAGS_BOUND,
-        mode: e.settings / MODE_UNIT,
-    }
-}
-
 // What a step back answers: the settings, stop 9, or stop 8 where there is no last entry.
 pub enum Returned {
     Back(Settings),
@@ -224,5 +201,5 @@ pub fn take_back(regs: &mut [u32; 256], cells: &mut [u32], journal: &[u32], dept
     }
     write_cell(cells, uses_store(e), e.address, e.old);
     restore_regs(regs, e);
-    Returned::Back(settings_before(e))
+    Returned::Back(unpack(e.settings))
 }

@@ -7,8 +7,8 @@ use Rattle.journal.proofs.entry_of.Tie as tie
 element-copy-out-t9 : tie.Need-element-copy-out-t9
 element-copy-out-t9 c = search needs
 
-packed-requires : tie.Need-packed-requires
-packed-requires c κs = search needs
+pack-requires : tie.Need-pack-requires
+pack-requires c κs = search needs
 
 number-requires : tie.Need-number-requires
 number-requires c κs = search needs
@@ -38,14 +38,14 @@ uses-requires : tie.Need-uses-requires
 uses-requires c κs = search needs
 
 returns : tie.Need-returns
-returns c = rw (c .uses .ensures, c .before .part2 .ensures, c .before .before .part .ensures, c .before .before .before .held2 .ensures, c .before .before .before .before .held .ensures, c .before .before .before .before .before .number2 .ensures .0, c .before .before .before .before .before .before .number .ensures .0, c .before .before .before .before .before .before .before .packed .ensures)
+returns c = rw (c .uses .ensures, c .before .part2 .ensures, c .before .before .part .ensures, c .before .before .before .held2 .ensures, c .before .before .before .before .held .ensures, c .before .before .before .before .before .number2 .ensures .0, c .before .before .before .before .before .before .number .ensures .0, c .before .before .before .before .before .before .before .pack .ensures)
 
 pub entry-of-spec : {M : Type 1} → statement M
 entry-of-spec =
     tie.close
     (tie.spec
     element-copy-out-t9
-    packed-requires
+    pack-requires
     number-requires
     number-requires-2
     mul-t13

@@ -38,15 +38,15 @@ write-cell-requires c κs = search needs
 restore-regs-requires : tie.Need-restore-regs-requires
 restore-regs-requires c κs = numbered _ _ (sym (c .before .before .before .before .before .before .before .is-damaged .ensures) ∙ c .before .before .before .before .before .before .if3 .left)
 
-settings-before-requires : tie.Need-settings-before-requires
-settings-before-requires c κs = search needs
+unpack-requires : tie.Need-unpack-requires
+unpack-requires c κs = search needs
 
 same-length : tie.Need-same-length
 same-length c = search needs
 
 returns-4 : tie.Need-returns-4
 unfolding takenBack cellsBefore
-returns-4 c = λ s. rw (ne-eqb _ _ (c .before .before .before .before .before .before .before .before .before .before .before .before .before .if1 .left), ← c .before .before .before .before .before .before .before .before .before .before .before .before .start-of .ensures, le-ltb _ _ (c .before .before .before .before .before .before .before .before .before .before .before .if2 .left), ← c .before .before .before .before .before .before .before .before .before .before .last .ensures, ← c .before .before .before .before .before .before .before .before .before .is-damaged .ensures, c .before .before .before .before .before .before .before .before .if3 .left, c .settings-before .ensures, c .before .restore-regs .ensures, c .before .before .before .before .before .write-cell .ensures, c .before .before .before .before .before .before .uses-store .ensures)
+returns-4 c = λ s. rw (ne-eqb _ _ (c .before .before .before .before .before .before .before .before .before .before .before .before .before .if1 .left), ← c .before .before .before .before .before .before .before .before .before .before .before .before .start-of .ensures, le-ltb _ _ (c .before .before .before .before .before .before .before .before .before .before .before .if2 .left), ← c .before .before .before .before .before .before .before .before .before .before .last .ensures, ← c .before .before .before .before .before .before .before .before .before .is-damaged .ensures, c .before .before .before .before .before .before .before .before .if3 .left, c .unpack .ensures, c .before .restore-regs .ensures, c .before .before .before .before .before .write-cell .ensures, c .before .before .before .before .before .before .uses-store .ensures)
 
 pub take-back-spec : {M : Type 1} → statement M
 take-back-spec =
@@ -61,6 +61,6 @@ take-back-spec =
     uses-store-requires
     write-cell-requires
     restore-regs-requires
-    settings-before-requires
+    unpack-requires
     same-length
     returns-4)

@@ -1,10 +1,10 @@
--- `journal::packed` meets its contract: the sum fits in 64 bits.
+-- `packed::pack` meets its contract: the sum fits in 64 bits.
 -- Assumes nothing.
 use mathlib.Core.Path.{refl}
-use Rattle.journal.specs.Words.{packedOf}
+use Rattle.packed.specs.Packed.{packedOf}
 use borrow.Author.Needs.{needs}
-use Rattle.journal.proofs.packed.Statement.{statement}
-use Rattle.journal.proofs.packed.Tie as tie
+use Rattle.packed.proofs.pack.Statement.{statement}
+use Rattle.packed.proofs.pack.Tie as tie
 
 cast-sum : tie.Need-cast-sum
 cast-sum c = search needs
@@ -40,8 +40,8 @@ returns : tie.Need-returns
 unfolding packedOf
 returns c = refl
 
-pub packed-spec : {M : Type 1} → statement M
-packed-spec =
+pub pack-spec : {M : Type 1} → statement M
+pack-spec =
     tie.close
     (tie.spec
     cast-sum
