@@ -13,7 +13,7 @@ use lib.ListN.{length, getD, set, drop, length-append}
 use lib.Seq.{sets, drop-at, drop-drop, take-append-seam, drop-append-seam, set-getD, getD-set-other}
 use borrow.Author.Tests.{eqb-true, eqb-false, le-leb, lt-leb, lt-ltb, le-ltb, eq-eqb}
 use Rattle.machine.specs.declared.Settings.{Settings}
-use Rattle.machine.specs.State.{InRange, mostCells, freshSettings, badSettings}
+use Rattle.machine.specs.State.{flagsBound, InRange, mostCells, freshSettings, badSettings}
 use Rattle.machine.proofs.Tests.{picked}
 use Rattle.lent.specs.Little.{littleOf, bytesOf, numberAt}
 use Rattle.job.specs.Job.{kindBy, knownOf, fitsOf, endsOf, baseOf, countOf, wordsOf, cellsIn, registerOf, registerValue, settingsIn, sizeOf, kindOf, payloadOf, pastOf, inOrder, withinOf, settingsFit, passed, fateOf, refusalFrom, Content, contentOf, contentFrom}
@@ -163,7 +163,7 @@ module _ (m : ℕ) (past : SoFar) (c : Content) (s : Settings) (rest : List ℕ)
     fits = eq-eqb (length (setupPayload s)) 5 (setup-payload s);
     order = rw (le-leb (past .rank) 3 (omega arith), lt-ltb (past .rank) 3 p);
     within = refl;
-    settled = ap (λ (x : Settings). not (badSettings x)) (setup-back s range) ∙ rw (lt-leb 512 (s .flags) (range .flags), lt-leb 512 (s .mask) (range .mask), lt-leb 4 (s .mode) (range .mode));
+    settled = ap (λ (x : Settings). not (badSettings x)) (setup-back s range) ∙ rw (lt-leb flagsBound (s .flags) (range .flags), lt-leb flagsBound (s .mask) (range .mask), lt-leb 4 (s .mode) (range .mode));
   }
 
   by-fresh : (t : Bool) → freshOf s ≡ t → Reads m past c (setupOf s ++ rest) final

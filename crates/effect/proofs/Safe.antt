@@ -5,17 +5,18 @@ use mathlib.Core.Path.{_≡_, refl}
 use mathlib.Core.Bool.{Bool, true, false, cond, _||_}
 use mathlib.Core.Option.{none, some}
 use native.Mathlib.Omega.{arith}
-use lib.Bits.{bitAnd, and-le-l, or-lt}
+use lib.Bits.{bitAnd, and-le-l}
 use lib.Dec.{eqb}
 use lib.ListN.{length}
 use borrow.Author.Tests.{leb-false, eqb-true, eqb-false}
 use Rattle.word.proofs.Bounds.{raised-below}
 use Rattle.machine.specs.declared.Settings.{Settings}
-use Rattle.machine.specs.State.{State, firstSpecial, InRange}
+use Rattle.machine.specs.State.{State, flagsBound, firstSpecial, InRange}
+use Rattle.machine.proofs.Flags.{flags-or}
 use Rattle.machine.proofs.Tests.{picked, or-right}
 use Rattle.effect.specs.declared.Effect.{Effect}
 use Rattle.effect.specs.Action.{Action, Cpswp, Ldst, Put, Operate, Split, Bz, Int, Float, Illegal}
-use Rattle.effect.specs.Operands.{reg, maskAddress, modeAddress}
+use Rattle.effect.specs.Operands.{reg, valueOf, maskAddress, modeAddress}
 use Rattle.effect.specs.Parts.{still, flagsOf, illegal, store, load}
 use Rattle.effect.specs.Effect.{illegalLoad, illegalStore, effectOf}
 use Rattle.effect.specs.Refusal.{faults, refusedBy}
@@ -32,10 +33,10 @@ some-none h = let z : _≡_ {A = ℕ} 0 1 = cc in omega arith
 nowhere : {P : Type 0} → false ≡ true → P
 nowhere h = let z : _≡_ {A = ℕ} 0 1 = cc in absurd (omega arith)
 
-flags-in : (flags governed raised : ℕ) → flags < 512 → raised < 512 → flagsOf flags governed raised < 512
+flags-in : (flags governed raised : ℕ) → flags < flagsBound → raised < flagsBound → flagsOf flags governed raised < flagsBound
 unfolding flagsOf
 flags-in flags governed raised f r =
-    or-lt 9 (bitAnd flags (2 ^ 32 - 1 - governed)) raised (omega (arith, and-le-l flags (2 ^ 32 - 1 - governed))) r
+    flags-or (bitAnd flags (2 ^ 32 - 1 - governed)) raised (omega (arith, and-le-l flags (2 ^ 32 - 1 - governed))) r
 
 -- a test that is refused if it holds does not
 passed : (t : Bool) (k : ℕ) → cond t (some k) none ≡ none → t ≡ false
@@ -52,7 +53,7 @@ module _ (s : State) where
   illegal-kept : Kept (illegal (still s))
   illegal-kept = record {
     store = nowhere;
-    settings = λ in-range. record { flags = or-lt 9 (s .settings .flags) 128 (in-range .flags) (omega arith); mask = in-range .mask; mode = in-range .mode };
+    settings = λ in-range. record { flags = flags-or (s .settings .flags) 128 (in-range .flags) (omega arith); mask = in-range .mask; mode = in-range .mode };
   }
 
   -- a store that is legal and does not fault
@@ -60,7 +61,7 @@ module _ (s : State) where
   stored p v legal fine =
       picked Kept (eqb p 0) _ _ (λ t. kept) (λ t0.
       picked Kept (eqb p maskAddress) _ _
-      (λ t. record { store = nowhere; settings = λ in-range. record { flags = in-range .flags; mask = leb-false 512 v (rw (eqb-true p maskAddress t) at legal); mode = in-range .mode } }) (λ t1.
+      (λ t. record { store = nowhere; settings = λ in-range. record { flags = in-range .flags; mask = leb-false flagsBound v (rw (eqb-true p maskAddress t) at legal); mode = in-range .mode } }) (λ t1.
       picked Kept (eqb p modeAddress) _ _
       (λ t. record { store = nowhere; settings = λ in-range. record { flags = in-range .flags; mask = in-range .mask; mode = leb-false 4 v (rw (eqb-true p modeAddress t) at legal) } }) (λ t2.
       let z : p ≡ 0 → ⊥ = eqb-false p 0 t0 in
@@ -79,7 +80,7 @@ module _ (s : State) where
   safe (Operate op n x y) h = record {
     store = nowhere;
     settings = λ in-range. record {
-      flags = flags-in (s .settings .flags) _ _ (in-range .flags) (raised-below op _ _ _ (s .settings .flags));
+      flags = flags-in (s .settings .flags) _ _ (in-range .flags) (omega (arith, raised-below op (valueOf s x) (valueOf s y) (reg s n) (s .settings .flags)));
       mask = in-range .mask;
       mode = in-range .mode;
     };

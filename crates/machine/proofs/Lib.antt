@@ -3,3 +3,4 @@ pub mod Parts
 pub mod Words
 pub mod Named
 pub mod Checks
+pub mod Flags

@@ -7,7 +7,6 @@ use mathlib.Core.Bool.{Bool, true, false, cond}
 use mathlib.Core.List.{List}
 use mathlib.Core.Option.{Option, none, some}
 use native.Mathlib.Omega.{arith}
-use lib.Bits.{or-lt}
 use lib.Dec.{leb}
 use lib.ListN.{length}
 use lib.Seq.{sets, length-sets}
@@ -19,6 +18,7 @@ use Rattle.journal.specs.Journal.{writesIn, settledOf, settingsAfter, cellsAfte
 use Rattle.step.specs.Step.{actionIn, refusalOf, effectIn, moved, stepOf}
 use Rattle.effect.specs.Refusal.{refusedBy}
 use Rattle.machine.specs.Lawful.{Ready, Lawful, Words}
+use Rattle.machine.proofs.Flags.{flags-or}
 use Rattle.machine.proofs.Words.{set-words}
 use Rattle.cell.proofs.Fields.{decoded-in-range}
 use Rattle.effect.specs.declared.Write.{Write}
@@ -60,7 +60,7 @@ unfolding effectIn
 safe-in s c = safe s (actionIn s) (c .allowed)
 
 settled-in : (t : Bool) (s : Settings) → InRange s → InRange (settledOf t s)
-settled-in true s r = record { flags = or-lt 9 (s .flags) 256 (r .flags) (omega arith); mask = r .mask; mode = r .mode }
+settled-in true s r = record { flags = flags-or (s .flags) 256 (r .flags) (omega arith); mask = r .mask; mode = r .mode }
 settled-in false s r = r
 
 capacity-sets : (journal words : List ℕ) (i : ℕ) → capacityOf (sets journal i words) ≡ capacityOf journal

@@ -78,7 +78,7 @@ governed-below Ugt m l n flags = omega arith
 governed-below Sgt m l n flags = omega arith
 governed-below Eq m l n flags = omega arith
 
-pub raised-below : (op : Op) (m l n flags : ℕ) → writtenOf op m l n flags .raised < 512
+pub raised-below : (op : Op) (m l n flags : ℕ) → writtenOf op m l n flags .raised < 32
 raised-below op m l n flags = rw (← raised-within op m l n flags) (omega (arith, and-le-r (writtenOf op m l n flags .raised) (writtenOf op m l n flags .governed), governed-below op m l n flags))
 
 truth-below : (t : Bool) → truth t < 2 ^ 32
