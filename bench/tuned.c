@@ -1,6 +1,6 @@
-/* The program `bench` in C once more, tuned: the rules, the journal and the line of bench/twin.c in as few x86-64 instructions as were found for
- * plain scalar C, with no vectors, computed gotos or tail calls. The twin is how one writes a runner; this is how little it need cost. It
- * shares nothing with the crates.
+/* The program `bench` in C once more, tuned: the rules, the journal and the line of bench/twin.c, written for few x86-64 instructions in plain
+ * scalar C, with no vectors, computed gotos or tail calls. The twin is how one writes a runner; this is how little it need cost. It shares
+ * nothing with the crates.
  *
  * What makes it cheap:
  * - Settings stay packed, as word 1 of an entry has them, for a whole run; the flags are their low bits.
