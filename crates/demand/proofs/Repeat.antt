@@ -78,7 +78,7 @@ course-fine : (k : ℕ) (s : State) (c : Course) → courseAfter k s ≡ c → F
 course-fine k s c e = rw e at (step-fine (steps k s))
 
 ends-full : {n f : ℕ} {s : State} {x : Said} → Ends n s f x → x ≡ plainly 0 → f ≡ n
-ends-full (spent g) e = refl
+ends-full {n = n} (spent g) e = refl
 ends-full {s = s} (last k x h g c) e = absurd (not-zero x (course-fine k s (stopped x) c) e)
 ends-full {s = s} (next k x h g c) e = absurd (not-zero x (course-fine k s (refused x) c) e)
 
@@ -114,11 +114,11 @@ going-refused : {c : Course} {x : Said} → c ≡ refused x → c ≡ going → 
 going-refused p q = let z : _≡_ {A = ℕ} 0 1 = cc in omega arith
 
 ends-once : {n f g : ℕ} {s : State} {x y : Said} → Ends n s f x → Ends n s g y → (f ≡ g) × (x ≡ y)
-ends-once (spent a) (spent b) = (refl, refl)
-ends-once (spent a) (last l y i b d) = absurd (going-stopped d (a l i))
-ends-once (spent a) (next l y i b d) = absurd (going-refused d (a l i))
-ends-once (last k x h a c) (spent b) = absurd (going-stopped c (b k h))
-ends-once (next k x h a c) (spent b) = absurd (going-refused c (b k h))
+ends-once {s = s} (spent a) (spent b) = (refl, refl)
+ends-once {s = s} (spent a) (last l y i b d) = absurd (going-stopped d (a l i))
+ends-once {s = s} (spent a) (next l y i b d) = absurd (going-refused d (a l i))
+ends-once {s = s} (last k x h a c) (spent b) = absurd (going-stopped c (b k h))
+ends-once {s = s} (next k x h a c) (spent b) = absurd (going-refused c (b k h))
 ends-once {s = s} (last k x h a c) (last l y i b d) =
     let e = first (λ j. courseAfter j s ≡ going) k l a b (going-stopped c) (going-stopped d) in
     (ap suc e, cc)

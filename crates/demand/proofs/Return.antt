@@ -92,11 +92,11 @@ not-whole : {t : Bool} → t ≡ true → t ≡ false → ⊥
 not-whole p q = let z : _≡_ {A = ℕ} 0 1 = cc in omega arith
 
 falls-once : {n f g : ℕ} {s : State} {x y : Said} → Falls n s f x → Falls n s g y → (f ≡ g) × (x ≡ y)
-falls-once (spent a) (spent b) = (refl, refl)
-falls-once (spent a) (start l i b d) = absurd (a l i .some d)
-falls-once (spent a) (damaged l i b d e) = absurd (not-whole e (a l i .whole))
-falls-once (start k h a c) (spent b) = absurd (b k h .some c)
-falls-once (damaged k h a c e) (spent b) = absurd (not-whole e (b k h .whole))
+falls-once {s = s} (spent a) (spent b) = (refl, refl)
+falls-once {s = s} (spent a) (start l i b d) = absurd (a l i .some d)
+falls-once {s = s} (spent a) (damaged l i b d e) = absurd (not-whole e (a l i .whole))
+falls-once {s = s} (start k h a c) (spent b) = absurd (b k h .some c)
+falls-once {s = s} (damaged k h a c e) (spent b) = absurd (not-whole e (b k h .whole))
 falls-once {s = s} (start k h a c) (start l i b d) =
     (first (λ j. Undoable (undos j s)) k l a b (λ z. z .some c) (λ z. z .some d), refl)
 falls-once {s = s} (start k h a c) (damaged l i b d e) =
