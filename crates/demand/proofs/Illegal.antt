@@ -13,7 +13,8 @@ use Rattle.machine.specs.State.{State}
 use Rattle.machine.proofs.Tests.{picked}
 use Rattle.effect.specs.declared.Effect.{Effect}
 use Rattle.effect.specs.Action.{Action, Cpswp, Ldst, Put, Operate, Split, Bz, Int, Float, Illegal}
-use Rattle.effect.specs.Operands.{reg, valueOf, maskAddress, modeAddress, behind}
+use Rattle.machine.specs.Addresses.{maskAddress, modeAddress}
+use Rattle.effect.specs.Operands.{reg, valueOf, behind}
 use Rattle.effect.specs.Parts.{still, flagsOf, store, load}
 use Rattle.effect.specs.Effect.{illegalLoad, illegalStore, effectOf}
 use Rattle.journal.specs.Journal.{endedOf, regsAfter, settledOf, settingsAfter}

@@ -17,7 +17,8 @@ use Rattle.machine.proofs.Tests.{picked}
 use Rattle.effect.specs.declared.Write.{Write}
 use Rattle.effect.specs.declared.Effect.{Effect}
 use Rattle.effect.specs.Action.{Extension, Se, Ex, Value, R, Imm, Extended, Lower, Upper, Action, Cpswp, Ldst, Put, Split, Bz, Int, Float, Illegal, operation, floats, actionOf}
-use Rattle.effect.specs.Operands.{nextOf, operandOf, reg, extended, valueOf, flagsAddress, maskAddress, modeAddress, behind}
+use Rattle.machine.specs.Addresses.{flagsAddress, maskAddress, modeAddress}
+use Rattle.effect.specs.Operands.{nextOf, operandOf, reg, extended, valueOf, behind}
 use Rattle.effect.specs.Parts.{noWrite, still, store, load}
 use Rattle.effect.specs.Effect.{illegalLoad, illegalStore, effectOf}
 

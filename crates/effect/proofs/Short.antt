@@ -11,7 +11,8 @@ use borrow.Author.Tests.{lt-ltb, le-ltb, lt-leb, le-leb, ne-eqb, eqb-true, eqb-f
 use Rattle.machine.specs.declared.Settings.{Settings}
 use Rattle.machine.specs.State.{firstSpecial}
 use Rattle.effect.specs.declared.Answer.the-variants.{Onward}
-use Rattle.effect.specs.Operands.{modeAddress, maskAddress, behind}
+use Rattle.machine.specs.Addresses.{modeAddress, maskAddress}
+use Rattle.effect.specs.Operands.{behind}
 use Rattle.effect.specs.Parts.{noWrite, onward, _then_, writeA, writeCell, store as storeAt, load as loadAt}
 use Rattle.effect.specs.Effect.{illegalLoad, illegalStore}
 use Rattle.effect.specs.Refusal.{faults}

@@ -13,7 +13,8 @@ use Rattle.machine.specs.State.{firstSpecial}
 use Rattle.effect.specs.declared.Write.{Write}
 use Rattle.effect.specs.declared.Store.{Store}
 use Rattle.effect.specs.declared.Effect.{Effect}
-use Rattle.effect.specs.Operands.{maskAddress, modeAddress, behind}
+use Rattle.machine.specs.Addresses.{maskAddress, modeAddress}
+use Rattle.effect.specs.Operands.{behind}
 use Rattle.effect.specs.Parts.{noWrite, noStore, gets, _then_, result, illegal, store, load}
 use Rattle.effect.specs.Effect.{illegalLoad, illegalStore}
 use Rattle.effect.specs.Refusal.{faults}

@@ -7,6 +7,7 @@ use lib.ListN.{getD}
 use Rattle.half.specs.Half.{seOf, exOf}
 use Rattle.machine.specs.declared.Settings.{Settings}
 use Rattle.machine.specs.State.{State, firstSpecial, pcOf}
+use Rattle.machine.specs.Addresses.{flagsAddress, maskAddress}
 use Rattle.effect.specs.Action.{Extension, Se, Ex, Value, R, Imm, Extended, Lower, Upper}
 
 -- the PC that an instruction sees: one past its own cell, in 32 bits
@@ -33,16 +34,6 @@ valueOf s (Imm x) = x
 valueOf s (Extended e x) = extended e x
 valueOf s (Lower i x) = reg s i / 65536 * 65536 + x
 valueOf s (Upper i x) = x * 65536 + reg s i % 65536
-
--- the addresses above memory that LDST knows
-abbrev pub flagsAddress : ℕ
-flagsAddress = 0xFFFF0000
-
-abbrev pub maskAddress : ℕ
-maskAddress = 0xFFFF0001
-
-abbrev pub modeAddress : ℕ
-modeAddress = 0xFFFF0002
 
 -- the value at a load pointer: a cell, the flags, the mask or the mode
 unfoldable pub behind : List ℕ → Settings → ℕ → ℕ

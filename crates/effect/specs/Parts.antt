@@ -12,7 +12,8 @@ use Rattle.effect.specs.declared.Store.{Store}
 use Rattle.effect.specs.declared.Answer.{Answer}
 use Rattle.effect.specs.declared.Answer.the-variants.{Onward}
 use Rattle.effect.specs.declared.Effect.{Effect}
-use Rattle.effect.specs.Operands.{nextOf, maskAddress, modeAddress}
+use Rattle.machine.specs.Addresses.{maskAddress, modeAddress}
+use Rattle.effect.specs.Operands.{nextOf}
 
 infixl 20 _then_
 -- The registers that a step writes, by their names in the journal, and whether b is written before a.
