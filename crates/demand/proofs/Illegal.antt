@@ -1,7 +1,7 @@
 -- Flag 128 stays up: no step of the definition clears it, so that at a run's end it tells of the whole run.
 -- Assumes nothing.
 use Prim.Native.Nat.{ℕ, zero, suc, _-_, _/_, _%_, _^_, _<_}
-use mathlib.Core.Path.{_≡_, refl, sym, ap, _∙_}
+use mathlib.Core.Path.{_≡_, refl, ap, _∙_}
 use mathlib.Core.Bool.{Bool, true, false, _||_}
 use mathlib.Core.Option.{Option, none, some}
 use native.Mathlib.Omega.{arith}
@@ -14,7 +14,7 @@ use Rattle.machine.proofs.Tests.{picked}
 use Rattle.effect.specs.declared.Effect.{Effect}
 use Rattle.effect.specs.Action.{Action, Cpswp, Ldst, Put, Operate, Split, Bz, Int, Float, Illegal}
 use Rattle.machine.specs.Addresses.{maskAddress, modeAddress}
-use Rattle.effect.specs.Operands.{reg, valueOf, behind}
+use Rattle.effect.specs.Operands.{reg}
 use Rattle.effect.specs.Parts.{still, flagsOf, store, load}
 use Rattle.effect.specs.Effect.{illegalLoad, illegalStore, effectOf}
 use Rattle.journal.specs.Journal.{endedOf, regsAfter, settledOf, settingsAfter}

@@ -1,7 +1,7 @@
 -- Demand 2, back: going back that is not refused at once is the definition's step back repeated, and ends where depth and entries say; so
 -- it has one outcome.
 -- Assumes nothing.
-use Prim.Native.Nat.{ℕ, zero, suc, _+_, _<_}
+use Prim.Native.Nat.{ℕ, zero, suc, _+_}
 use mathlib.Core.Path.{_≡_, refl, sym, ap, _∙_}
 use mathlib.Core.Bool.{Bool, true, false, cond}
 use mathlib.Core.Option.{none}

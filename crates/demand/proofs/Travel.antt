@@ -10,11 +10,11 @@ use native.Mathlib.Nat.{add-zero, add-assoc}
 use native.Mathlib.Omega.{arith}
 use lib.Dec.{eqb}
 use lib.ListN.{length, take}
-use borrow.Author.Tests.{eq-eqb, ne-eqb, eqb-true, eqb-false}
+use borrow.Author.Tests.{eq-eqb, ne-eqb, eqb-false}
 use Rattle.effect.specs.declared.Effect.{Effect}
 use Rattle.machine.specs.State.{State, mostCells, capacityOf}
 use Rattle.journal.specs.Journal.{applyOf, lastOf, damagedOf, undoOf}
-use Rattle.machine.specs.Stops.{Said, plainly}
+use Rattle.machine.specs.Stops.{plainly}
 use Rattle.step.specs.Step.{Course, going, stopped, refused, actionIn, effectIn, refusalOf, moved, stepOf}
 use Rattle.runner.specs.Calls.{Out, stopAt, goOn, runFrom, backFrom, checkIn, called, backOf}
 use Rattle.effect.proofs.Blind as blind
