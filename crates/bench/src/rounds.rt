@@ -1,6 +1,6 @@
 // Rounds of a run forward and a run back, and what is told of them.
+use call::Ran;
 use machine::Machine;
-use runner::Ran;
 
 // How far a round goes forward.
 const BUDGET: u64 = 65536;
@@ -59,8 +59,8 @@ pub(crate) fn go_round(
     };
     let mut left = times;
     while 0 < left {
-        let ran = runner::run(state, cells, journal, BUDGET);
-        let returned = runner::back(ran.machine, cells, journal, number);
+        let ran = forward::run(state, cells, journal, BUDGET);
+        let returned = backward::back(ran.machine, cells, journal, number);
         told = add_up(told, ran, returned.count);
         state = returned.machine;
         left -= 1;

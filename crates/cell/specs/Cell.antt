@@ -4,7 +4,6 @@ use mathlib.Core.Bool.{Bool, cond, _&&_, _||_}
 use lib.Dec.{leb}
 use Rattle.cell.specs.declared.Form.{Form}
 use Rattle.cell.specs.declared.Form.the-variants as form
-use Rattle.cell.specs.declared.Bits.{Bits}
 use Rattle.cell.specs.declared.Instruction.{Instruction}
 use Rattle.cell.specs.declared.Instruction.the-variants as instruction
 use Rattle.cell.specs.declared.Operands.{Operands}
@@ -42,9 +41,6 @@ lOf c = c % 256
 
 abbrev pub immOf : ℕ → ℕ
 immOf c = c % 65536
-
-abbrev pub bitsOf : ℕ → Bits
-bitsOf c = record { opcode = opcodeOf c; n = nOf c; m = mOf c; l = lOf c; imm = immOf c }
 
 -- a cell read in a form; a reserved one is answered whole
 abbrev pub readAs : Form → ℕ → Instruction

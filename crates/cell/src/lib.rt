@@ -1,6 +1,7 @@
-// A cell as an instruction: decoding it, and encoding it from an opcode and operands.
+// A cell as an instruction: where its numbers lie, decoding it, and encoding it from an opcode and operands.
 ghost use mathlib.Core.Path.{_≡_};
-ghost use Rattle.cell.specs.Cell.{within as inside, legal as legalOf, immediate as immediateOf, formOf, bitsOf, decodeOf, encodeOf};
+ghost use Prim.Native.Nat.{_<_};
+ghost use Rattle.cell.specs.Cell.{within as inside, legal as legalOf, immediate as immediateOf, formOf, opcodeOf, nOf, mOf, lOf, immOf, decodeOf, encodeOf};
 ghost use Rattle.cell.specs.Answers.{encodedReply};
 
 // How the 24 bits below an opcode are read: three registers, a register and an immediate, or not at all.
@@ -28,15 +29,6 @@ pub enum Encoded {
     Cell(u32),
     ReservedOpcode,
     OtherForm,
-}
-
-// A cell's bits by their places: the opcode, the three registers, and imm, which lies where m and l do.
-pub struct Bits {
-    pub opcode: u8,
-    pub n: u8,
-    pub m: u8,
-    pub l: u8,
-    pub imm: u16,
 }
 
 // Whether x is one of the numbers a to b.
@@ -75,29 +67,50 @@ pub fn form_of(opcode: u8) -> Form
     }
 }
 
-// A cell, taken apart.
-pub fn bits_of(cell: u32) -> Bits
-    ensures { λ r. ⌜ r ≡ bitsOf cell ⌝ }
+// A cell's opcode, its highest 8 bits.
+pub fn opcode_of(cell: u32) -> u32
+    ensures { λ r. ⌜ (r ≡ opcodeOf cell) × (r < 256) ⌝ }
 {
-    Bits {
-        opcode: (cell / 16777216) as u8,
-        n: (cell / 65536 % 256) as u8,
-        m: (cell / 256 % 256) as u8,
-        l: (cell % 256) as u8,
-        imm: (cell % 65536) as u16,
-    }
+    cell / 16777216
+}
+
+// The first register, below the opcode.
+pub fn n_of(cell: u32) -> u32
+    ensures { λ r. ⌜ (r ≡ nOf cell) × (r < 256) ⌝ }
+{
+    cell / 65536 % 256
+}
+
+// The second register, below n.
+pub fn m_of(cell: u32) -> u32
+    ensures { λ r. ⌜ (r ≡ mOf cell) × (r < 256) ⌝ }
+{
+    cell / 256 % 256
+}
+
+// The third register, a cell's lowest 8 bits.
+pub fn l_of(cell: u32) -> u32
+    ensures { λ r. ⌜ (r ≡ lOf cell) × (r < 256) ⌝ }
+{
+    cell % 256
+}
+
+// The immediate, which lies where m and l do.
+pub fn imm_of(cell: u32) -> u16
+    ensures { λ r. ⌜ r ≡ immOf cell ⌝ }
+{
+    (cell % 65536) as u16
 }
 
 // The instruction that a cell is.
 pub fn decode(cell: u32) -> Instruction
     ensures { λ r. ⌜ r ≡ decodeOf cell ⌝ }
 {
-    let bits = bits_of(cell);
-    let opcode = bits.opcode;
-    let n = bits.n;
-    let m = bits.m;
-    let l = bits.l;
-    let imm = bits.imm;
+    let opcode = opcode_of(cell) as u8;
+    let n = n_of(cell) as u8;
+    let m = m_of(cell) as u8;
+    let l = l_of(cell) as u8;
+    let imm = imm_of(cell);
     let form = form_of(opcode);
     match form {
         Form::Registers => Instruction::Registers { opcode, n, m, l },

@@ -11,11 +11,10 @@ use Rattle.word.proofs.Bounds.{governed-below}
 use Rattle.machine.specs.declared.Settings.{Settings}
 use Rattle.machine.specs.State.{State}
 use Rattle.machine.proofs.Tests.{picked}
-use Rattle.effect.specs.declared.Effect.{Effect}
+use Rattle.effect.specs.Parts.{Effect, still, flagsOf, store, load}
 use Rattle.effect.specs.Action.{Action, Cpswp, Ldst, Put, Operate, Split, Bz, Int, Float, Illegal}
 use Rattle.machine.specs.Addresses.{maskAddress, modeAddress}
 use Rattle.effect.specs.Operands.{reg}
-use Rattle.effect.specs.Parts.{still, flagsOf, store, load}
 use Rattle.effect.specs.Effect.{illegalLoad, illegalStore, effectOf}
 use Rattle.journal.specs.Journal.{endedOf, regsAfter, settledOf, settingsAfter}
 use Rattle.step.specs.Step.{actionIn, refusalOf, effectIn, moved, stepOf}

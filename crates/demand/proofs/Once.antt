@@ -2,24 +2,25 @@
 -- are equal. A contract that is an equation `r ≡ definition` is answered by one law; the others state what was said, which determines the
 -- answer.
 -- Assumes nothing.
-use Prim.Native.Nat.{ℕ, min}
+use Prim.Native.Nat.{ℕ, _+_, _%_, _<_, min}
 use mathlib.Core.Path.{_≡_, refl, sym, ap, _∙_}
-use mathlib.Core.Bool.{Bool, not}
+use mathlib.Core.Bool.{Bool, cond, not}
 use mathlib.Core.Option.{Option, none, some}
 use mathlib.Core.List.{List, []}
-use lib.ListN.{getD}
-use Rattle.word.specs.declared.Operated.{Operated}
-use Rattle.half.specs.Half.{seOf, exOf}
-use Rattle.word.specs.Word.{askedOf, operatedBy}
+use lib.Dec.{eqb}
+use lib.ListN.{length, replicate, set}
+use Rattle.half.specs.declared.Extension.{Extension}
+use Rattle.half.specs.Half.{seOf, exOf, extended}
+use Rattle.word.specs.declared.Op.{Op}
+use Rattle.word.specs.declared.Written.{Written}
+use Rattle.word.specs.Word.{writtenOf}
 use Rattle.cell.specs.declared.Form.{Form}
-use Rattle.cell.specs.declared.Bits.{Bits}
 use Rattle.cell.specs.declared.Instruction.{Instruction}
 use Rattle.cell.specs.declared.Operands.{Operands}
 use Rattle.cell.specs.declared.Encoded.{Encoded}
 use Rattle.cell.specs.Cell as cell
 use Rattle.cell.specs.Answers.{encodedReply}
 use Rattle.cell.proofs.RoundTrip as cells
-use lib.ListN.{length, replicate}
 use Rattle.lent.specs.Lesser.{Lesser}
 use Rattle.lent.specs.Little.{bytesOf, numberAt}
 use Rattle.text.specs.Text.{Added}
@@ -33,31 +34,22 @@ use Rattle.reader.specs.Reader as reader
 use Rattle.reader.specs.Answers.{readReply, Small}
 use Rattle.reader.proofs.RoundTrip as trips
 use Rattle.machine.specs.declared.Settings.{Settings}
-use Rattle.effect.specs.declared.instruction.Considered.{Considered}
-use Rattle.effect.specs.Action.{actionOf}
-use Rattle.effect.specs.Becomes.{becameOf}
-use Rattle.effect.specs.Answers.{meant}
+use Rattle.effect.specs.Action.{Action}
+use Rattle.effect.specs.Operands.{nextOf}
+use Rattle.effect.specs.Parts.{flagsOf}
 use Rattle.machine.specs.declared.Machine.{Machine}
-use Rattle.runner.specs.declared.Ran.{Ran}
+use Rattle.call.specs.declared.Ran.{Ran}
 use Rattle.machine.specs.declared.Stop.{Stop}
-use Rattle.machine.specs.State.{State, freshMachine, stateOf, stateWith, badCells, badSettings, entriesIn, writeIf}
+use Rattle.machine.specs.State.{freshMachine, stateOf, badCells, badSettings, entriesIn}
 use Rattle.packed.specs.Packed.{packedOf, unpackedOf}
-use Rattle.effect.specs.declared.Write.{Write}
-use Rattle.effect.specs.declared.Store.{Store}
-use Rattle.journal.specs.declared.Returned.{Returned}
 use Rattle.journal.specs.declared.Entry.{Entry}
-use Rattle.journal.specs.Words.{startOf, entryWith}
-use Rattle.journal.specs.Journal.{entered, takenBack}
-use Rattle.journal.specs.Answers.{returnedOf}
-use Rattle.journal.proofs.Named as returns
-use Rattle.step.specs.declared.Advanced.{Advanced}
-use Rattle.step.specs.Step.{stepOf}
-use Rattle.step.specs.Answers.{advancedTo}
-use Rattle.step.proofs.Named as turns
+use Rattle.journal.specs.Journal.{entered, firstIn, damagedOf, restored, cellsBefore}
+use Rattle.carried.specs.Left.{Left, left, leftOf, before}
+use Rattle.call.specs.declared.Checked.{Checked}
 use Rattle.machine.specs.Stops.{saidOf}
-use Rattle.runner.specs.Calls.{runOf, backOf}
-use Rattle.runner.specs.Answers.{outOf}
-use Rattle.runner.proofs.Named as runner
+use Rattle.call.specs.Calls.{checkOf, runOf, backOf}
+use Rattle.call.specs.Answers.{checkedOf, saidBy, outOf}
+use Rattle.call.proofs.Named as calls
 use Rattle.refusal.specs.declared.Refusal.{Refusal}
 use Rattle.job.specs.declared.Answer.{Answer}
 use Rattle.job.specs.declared.Answer.the-variants.{Done, Refused}
@@ -81,14 +73,21 @@ se-once x r t = unique
 pub ex-once : (x r t : ℕ) → r ≡ exOf x → t ≡ exOf x → r ≡ t
 ex-once x r t = unique
 
-pub operate-once : (opcode m l n flags : ℕ) (r t : Operated) → r ≡ operatedBy (askedOf opcode) m l n flags → t ≡ operatedBy (askedOf opcode) m l n flags → r ≡ t
-operate-once opcode m l n flags r t = unique
+pub extend-once : (by : Extension) (x r t : ℕ) → r ≡ extended by x → t ≡ extended by x → r ≡ t
+extend-once by x r t = unique
+
+pub operate-once : (op : Op) (m l n flags : ℕ) (r t : Written) → r ≡ writtenOf op m l n flags → t ≡ writtenOf op m l n flags → r ≡ t
+operate-once op m l n flags r t = unique
 
 pub form-once : (opcode : ℕ) (r t : Form) → r ≡ cell.formOf opcode → t ≡ cell.formOf opcode → r ≡ t
 form-once opcode r t = unique
 
-pub bits-once : (c : ℕ) (r t : Bits) → r ≡ cell.bitsOf c → t ≡ cell.bitsOf c → r ≡ t
-bits-once c r t = unique
+-- a cell's numbers below 256, wherever they lie: `opcode_of`, `n_of`, `m_of`, `l_of`
+pub number-of-once : (at : ℕ → ℕ) (c r t : ℕ) → (r ≡ at c) × (r < 256) → (t ≡ at c) × (t < 256) → r ≡ t
+number-of-once at c r t p q = unique (p .0) (q .0)
+
+pub imm-of-once : (c r t : ℕ) → r ≡ cell.immOf c → t ≡ cell.immOf c → r ≡ t
+imm-of-once c r t = unique
 
 pub decode-once : (c : ℕ) (r t : Instruction) → r ≡ cell.decodeOf c → t ≡ cell.decodeOf c → r ≡ t
 decode-once c r t = unique
@@ -121,12 +120,6 @@ print-once c before r t room room' p q = lines.print-once r t room room' (unique
 pub read-once : (text : List ℕ) (r t : ReadLine) → Small r → reader.Reads text (readReply r) → reader.Reads text (readReply t) → r ≡ t
 read-once = trips.read-once
 
--- the stop or the effect, whether it is said in short or at length
-pub consider-once : (c : ℕ) (regs cells : List ℕ) (s : Settings) (r t : Considered)
-    → ((depth : ℕ) (journal : List ℕ) → meant s r ≡ becameOf (actionOf (cell.decodeOf c)) (stateWith regs s depth cells journal))
-    → ((depth : ℕ) (journal : List ℕ) → meant s t ≡ becameOf (actionOf (cell.decodeOf c)) (stateWith regs s depth cells journal)) → meant s r ≡ meant s t
-consider-once c regs cells s r t p q = unique (p 0 []) (q 0 [])
-
 pub fresh-once : (r t : Machine) → r ≡ freshMachine → t ≡ freshMachine → r ≡ t
 fresh-once r t = unique
 
@@ -143,6 +136,9 @@ settings-once s r t = unique
 pub capacity-once : (words r t : ℕ) → r ≡ entriesIn words → t ≡ entriesIn words → r ≡ t
 capacity-once words r t = unique
 
+pub index-once : (x r t : ℕ) → r ≡ x → t ≡ x → r ≡ t
+index-once x r t = unique
+
 -- the word of settings, and the settings of a word
 pub pack-once : (s : Settings) (r t : ℕ) → r ≡ packedOf s → t ≡ packedOf s → r ≡ t
 pack-once s r t = unique
@@ -150,46 +146,75 @@ pack-once s r t = unique
 pub unpack-once : (s : ℕ) (r t : Settings) → r ≡ unpackedOf s → t ≡ unpackedOf s → r ≡ t
 unpack-once s r t = unique
 
-pub start-once : (depth r t : ℕ) → r ≡ startOf depth → t ≡ startOf depth → r ≡ t
-start-once depth r t = unique
+pub flags-of-once : (s r t : ℕ) → r ≡ unpackedOf s .flags → t ≡ unpackedOf s .flags → r ≡ t
+flags-of-once s r t = unique
 
--- an entry, and the part of the journal that it was written into
-pub entry-once : (regs : List ℕ) (s : Settings) (a b : Write) (store : Store) (old : ℕ) (r t : Entry)
-    → r ≡ entryWith regs s a b store old → t ≡ entryWith regs s a b store old → r ≡ t
-entry-once regs s a b store old r t = unique
+-- the entry that a part of the journal has, the part that one was written into, and what a step taken back by it leaves
+pub entry-in-once : (part : List ℕ) (r t : Entry) → r ≡ firstIn part → t ≡ firstIn part → r ≡ t
+entry-in-once part r t = unique
 
 pub enter-once : (before : List ℕ) (e : Entry) (after after' : List ℕ) → after ≡ entered before e → after' ≡ entered before e → after ≡ after'
 enter-once before e after after' = unique
 
-pub read-cell-once : (cells : List ℕ) (address r t : ℕ) → r ≡ getD cells address 0 → t ≡ getD cells address 0 → r ≡ t
-read-cell-once cells address r t = unique
+pub take-back-once : (e : Entry) (regs cells : List ℕ) (r t : Bool) (after after' kept kept' : List ℕ)
+    → (r ≡ not (damagedOf (length cells) e)) × (after ≡ cond r (restored e regs) regs) × (kept ≡ cond r (cellsBefore e cells) cells)
+    → (t ≡ not (damagedOf (length cells) e)) × (after' ≡ cond t (restored e regs) regs) × (kept' ≡ cond t (cellsBefore e cells) cells)
+    → (r ≡ t) × (after ≡ after') × (kept ≡ kept')
+take-back-once e regs cells r t after after' kept kept' p q =
+    let s = unique (p .0) (q .0) in
+    (s, unique (rw s at (p .1)) (q .1), unique (rw s at (p .2)) (q .2))
 
--- what a write leaves, to a register by `machine::put` and to a cell by `keep`
-pub write-once : (used : Bool) (before : List ℕ) (i v : ℕ) (after after' : List ℕ) → after ≡ writeIf used before i v → after' ≡ writeIf used before i v → after ≡ after'
-write-once used before i v after after' = unique
+-- the next PC; an entry written and PC moved on, by `move_on` and, with n answered as `n_of` does, by `keep_n`; what an operation wrote, by `carried::put`
+pub next-of-once : (pc r t : ℕ) → r ≡ (pc + 1) % 4294967296 → t ≡ (pc + 1) % 4294967296 → r ≡ t
+next-of-once pc r t = unique
 
--- one step, and a step back, which is promised whatever the settings are
-pub advance-once : (from : State) (r t : Advanced) (regs regs' cells cells' journal journal' : List ℕ)
-    → advancedTo r regs cells journal ≡ stepOf from → advancedTo t regs' cells' journal' ≡ stepOf from
-    → (r ≡ t) × (regs ≡ regs') × (cells ≡ cells') × (journal ≡ journal')
-advance-once from = turns.once (stepOf from)
+pub move-on-once : (before regs : List ℕ) (e : Entry) (part part' after after' : List ℕ)
+    → (part ≡ entered before e) × (after ≡ set regs 255 (nextOf regs)) → (part' ≡ entered before e) × (after' ≡ set regs 255 (nextOf regs))
+    → (part ≡ part') × (after ≡ after')
+move-on-once before regs e part part' after after' p q = (unique (p .0) (q .0), unique (p .1) (q .1))
 
-pub take-back-once : (from : State) (r t : Returned) (regs regs' cells cells' : List ℕ)
-    → ((s : Settings) → returnedOf r s (from .depth) regs cells (from .journal) ≡ takenBack (stateWith (from .regs) s (from .depth) (from .cells) (from .journal)))
-    → ((s : Settings) → returnedOf t s (from .depth) regs' cells' (from .journal) ≡ takenBack (stateWith (from .regs) s (from .depth) (from .cells) (from .journal)))
-    → (r ≡ t) × (regs ≡ regs') × (cells ≡ cells')
-take-back-once from r t regs regs' cells cells' p q =
-    returns.once (from .settings) (from .depth) (from .journal) (takenBack from) r t regs regs' cells cells' (p _) (q _)
+pub result-once : (w : Written) (n s told : ℕ) (regs after after' : List ℕ) (r t said said' : ℕ)
+    → (after ≡ set regs (n % 256) (w .value)) × (r ≡ flagsOf s (w .governed) (w .raised)) × (said ≡ cond (eqb (w .raised) 0) told (w .raised))
+    → (after' ≡ set regs (n % 256) (w .value)) × (t ≡ flagsOf s (w .governed) (w .raised)) × (said' ≡ cond (eqb (w .raised) 0) told (w .raised))
+    → (after ≡ after') × (r ≡ t) × (said ≡ said')
+result-once w n s told regs after after' r t said said' p q = (unique (p .0) (q .0), unique (p .1) (q .1), unique (p .2) (q .2))
+
+-- An instruction carried out over 256 registers, by `carry_out` and `transfer`: registers, cells and part, the settings, and what is told.
+module _ (told : ℕ) (a : Action) (regs : List ℕ) (long : length regs ≡ 256) (s : ℕ) (part : List ℕ) where
+  pub carry-out-once : (cells after after' kept kept' noted noted' : List ℕ) (r t said said' : ℕ)
+      → (length regs ≡ 256 → left after kept noted r said ≡ leftOf told a (before regs s cells part))
+      → (length regs ≡ 256 → left after' kept' noted' t said' ≡ leftOf told a (before regs s cells part))
+      → (after ≡ after') × (kept ≡ kept') × (noted ≡ noted') × (r ≡ t) × (said ≡ said')
+  carry-out-once cells after after' kept kept' noted noted' r t said said' p q =
+      let e = unique (p long) (q long) in
+      (ap (λ (l : Left). l .regs) e, ap (λ (l : Left). l .cells) e, ap (λ (l : Left). l .part) e, ap (λ (l : Left). l .settings) e, ap (λ (l : Left). l .told) e)
+
+  -- One that is lent no cells promises it for all cells, and so for none: `registers`, `immediate`, `turned`, `interrupt`, `illegal`; and `swap`, `load`,
+  -- `split`, `branch`, which tell nothing, and promise it for whatever was told.
+  pub without-cells-once : (after after' noted noted' : List ℕ) (r t said said' : ℕ)
+      → ((cells : List ℕ) → length regs ≡ 256 → left after cells noted r said ≡ leftOf told a (before regs s cells part))
+      → ((cells : List ℕ) → length regs ≡ 256 → left after' cells noted' t said' ≡ leftOf told a (before regs s cells part))
+      → (after ≡ after') × (noted ≡ noted') × (r ≡ t) × (said ≡ said')
+  without-cells-once after after' noted noted' r t said said' p q =
+      let w = carry-out-once [] after after' [] [] noted noted' r t said said' (p []) (q []) in
+      (w .0, w .2, w .3, w .4)
+
+-- what a call begins with, and how many steps it can do
+pub check-once : (m : ℕ) (s : Settings) (j depth : ℕ) (r t : Checked) → checkedOf r ≡ saidBy (checkOf m s j depth) → checkedOf t ≡ saidBy (checkOf m s j depth) → r ≡ t
+check-once m s j depth r t p q = calls.checked-once r t (unique p q)
+
+pub lesser-once : (number most r t : ℕ) → r ≡ min number most → t ≡ min number most → r ≡ t
+lesser-once number most r t = unique
 
 -- run, and step, which is a run of budget 1; back, whose journal is the one at entry
 module _ (m : Machine) (cells journal : List ℕ) (n : ℕ) (r t : Ran) (left left' kept kept' : List ℕ) where
   pub run-once : outOf r left kept ≡ runOf n (stateOf m cells journal) → outOf t left' kept' ≡ runOf n (stateOf m cells journal)
       → (r ≡ t) × (left ≡ left') × (kept ≡ kept')
-  run-once p q = runner.once _ r t left left' kept kept' p q
+  run-once p q = calls.once _ r t left left' kept kept' p q
 
   pub back-once : outOf r left journal ≡ backOf n (stateOf m cells journal) → outOf t left' journal ≡ backOf n (stateOf m cells journal)
       → (r ≡ t) × (left ≡ left')
-  back-once p q = let w = runner.once _ r t left left' journal journal p q in (w .0, w .1)
+  back-once p q = let w = calls.once _ r t left left' journal journal p q in (w .0, w .1)
 
 pub refusal-once : (why : Refusal) (r t : ℕ) → r ≡ numberOf why → t ≡ numberOf why → r ≡ t
 refusal-once why r t = unique

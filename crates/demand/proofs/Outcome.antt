@@ -9,7 +9,7 @@ use lib.Dec.{ltb}
 use borrow.Author.Tests.{ltb-true, ltb-false}
 use Rattle.machine.specs.State.{State}
 use Rattle.machine.specs.Stops.{Said}
-use Rattle.runner.specs.Calls.{Out, checkIn, callOf}
+use Rattle.call.specs.Calls.{Out, checkIn, callOf}
 use Rattle.demand.specs.Demands.{Called}
 
 -- of the numbers up to which all is so, only one is itself not so

@@ -12,8 +12,8 @@ use Rattle.machine.specs.Stops.{Said, plainly}
 use Rattle.step.specs.Step.{Course, going, stopped, refused, stepOf}
 use Rattle.step.specs.Steps.{steps, courseAfter}
 use Rattle.step.proofs.Repeats.{steps-none, steps-first}
-use Rattle.runner.specs.Calls.{Out, goOn, runFrom, checkIn, runOf}
-use Rattle.runner.proofs.Counts.{step-refused, run-count}
+use Rattle.call.specs.Calls.{Out, goOn, runFrom, checkIn, runOf}
+use Rattle.call.proofs.Counts.{step-refused, run-count}
 use Rattle.demand.specs.Demands.{listed, runStops, GoesOn, Ends, spent, last, next, Repeated, Called}
 use Rattle.demand.proofs.Stops.{stepStops, Fine, step-fine, widen, not-zero, call-said}
 use Rattle.demand.proofs.Outcome.{first, same-out, call-holds, call-once}

@@ -15,8 +15,8 @@ use Rattle.machine.specs.Stops.{Said, plainly}
 use Rattle.journal.specs.Journal.{undoOf}
 use Rattle.journal.specs.Undos.{undos, damagedIn, Undoable}
 use Rattle.journal.proofs.Undoing.{undos-none, undos-first}
-use Rattle.runner.specs.Calls.{Out, stopAt, backFrom, checkIn, backOf}
-use Rattle.runner.proofs.Counts.{back-count}
+use Rattle.call.specs.Calls.{Out, stopAt, backFrom, checkIn, backOf}
+use Rattle.call.proofs.Counts.{back-count}
 use Rattle.demand.specs.Demands.{listed, backStops, FallsOn, Falls, spent, start, damaged, Returned, Called}
 use Rattle.demand.proofs.Stops.{call-said}
 use Rattle.demand.proofs.Outcome.{first, same-out, call-holds, call-once}

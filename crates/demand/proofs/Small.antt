@@ -16,7 +16,7 @@ use Rattle.effect.specs.Refusal.{refusedBy}
 use Rattle.machine.specs.State.{entriesIn, capacityOf}
 use Rattle.journal.specs.Journal.{regsAfter, cellsAfter, settingsAfter, entryOf}
 use Rattle.step.specs.Step.{refusalOf, effectIn, courseOf, stepOf}
-use Rattle.runner.specs.Calls.{runFrom, checkOf}
+use Rattle.call.specs.Calls.{runFrom, checkOf}
 use Rattle.demand.specs.Cases.{cases, holds, all}
 
 pub small-cases : all holds cases ≡ true

@@ -8,9 +8,7 @@ use mathlib.Core.List.{List, [], _∷_, _++_}
 use native.Mathlib.Omega.{arith}
 use lib.Dec.{leb, ltb, eqb}
 use lib.ListN.{length}
-use Rattle.effect.specs.declared.Answer.{Answer}
-use Rattle.effect.specs.declared.Answer.the-variants.{Onward, Interrupt}
-use Rattle.effect.specs.declared.Effect.{Effect}
+use Rattle.effect.specs.Parts.{Answer, Onward, Interrupt, Effect}
 use Rattle.machine.specs.State.{pcOf, State, capacityOf, badCells, badSettings}
 use Rattle.effect.specs.Action.{Action, Cpswp, Ldst, Put, Operate, Split, Bz, Int, Float, Illegal}
 use Rattle.effect.specs.Operands.{reg}
@@ -19,7 +17,7 @@ use Rattle.machine.proofs.Tests.{picked}
 use Rattle.journal.specs.Journal.{endedOf, regsAfter}
 use Rattle.machine.specs.Stops.{Said, plainly}
 use Rattle.step.specs.Step.{Course, going, stopped, refused, trapsOf, answered, courseOf, refusalOf, effectIn, actionIn, moved, stepOf}
-use Rattle.runner.specs.Calls.{Out, checkOf, checkIn, called}
+use Rattle.call.specs.Calls.{Out, checkOf, checkIn, called}
 use Rattle.demand.specs.Demands.{listed, runStops}
 
 -- the stops that a step names, and those that the check names

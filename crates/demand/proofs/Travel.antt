@@ -11,21 +11,21 @@ use native.Mathlib.Omega.{arith}
 use lib.Dec.{eqb}
 use lib.ListN.{length, take}
 use borrow.Author.Tests.{eq-eqb, ne-eqb, eqb-false}
-use Rattle.effect.specs.declared.Effect.{Effect}
+use Rattle.effect.specs.Parts.{Effect}
 use Rattle.machine.specs.State.{State, mostCells, capacityOf}
 use Rattle.journal.specs.Journal.{applyOf, lastOf, damagedOf, undoOf}
 use Rattle.machine.specs.Stops.{plainly}
 use Rattle.step.specs.Step.{Course, going, stopped, refused, actionIn, effectIn, refusalOf, moved, stepOf}
-use Rattle.runner.specs.Calls.{Out, stopAt, goOn, runFrom, backFrom, checkIn, called, backOf}
+use Rattle.call.specs.Calls.{Out, stopAt, goOn, runFrom, backFrom, checkIn, called, backOf}
 use Rattle.effect.proofs.Blind as blind
 use Rattle.step.specs.Steps.{steps}
 use Rattle.journal.proofs.Room.{room}
 use Rattle.step.proofs.Keeps.{clear, formed-in, lawful-after}
 use Rattle.machine.specs.Lawful.{Lawful}
 use Rattle.journal.proofs.Undo.{Room, withJournal, intact-with, undo-with, up-to, last-known, earlier-known, lengths}
-use Rattle.runner.proofs.Counts.{done, course-done}
-use Rattle.runner.proofs.Checks.{passes}
-use Rattle.demand.specs.Journey.{Call, Step, Run, Back, Trip, setOut, forward, call, travel, seen, Arrived}
+use Rattle.call.proofs.Counts.{done, course-done}
+use Rattle.call.proofs.Checks.{passes}
+use Rattle.demand.specs.Journey.{Call, Step, Run, Back, Trip, setOut, call, travel, seen, Arrived}
 
 module _ (s₀ : State) (lawful₀ : Lawful s₀) (empty : s₀ .depth ≡ 0) where
   -- n steps, each of them done

@@ -8,7 +8,7 @@ use lib.ListN.{getD, set, replicate}
 use Rattle.text.specs.Text.{bytes}
 use Rattle.line.specs.Line.{lineOf}
 use Rattle.machine.specs.State.{State}
-use Rattle.runner.specs.Calls.{Out, runOf}
+use Rattle.call.specs.Calls.{Out, runOf}
 
 -- What a step is given: R1, R2 and the flags; and what it leaves: R1, R2, R3, PC, the flags and the stop's number.
 pub record Before : Type 0 where

@@ -11,7 +11,7 @@ use Rattle.machine.specs.Stops.{Said, plainly}
 use Rattle.journal.specs.Undos.{undos, damagedIn, Undoable}
 use Rattle.step.specs.Step.{going, stopped, refused}
 use Rattle.step.specs.Steps.{steps, courseAfter}
-use Rattle.runner.specs.Calls.{Out, stopAt, checkIn}
+use Rattle.call.specs.Calls.{Out, stopAt, checkIn}
 
 -- x is one of the list
 unfoldable pub listed : List ℕ → ℕ → Bool

@@ -6,7 +6,7 @@ use Rattle.machine.specs.declared.Settings.{Settings}
 use Rattle.machine.specs.State.{State, stateOf}
 use Rattle.machine.specs.Stops.{plainly}
 use Rattle.step.specs.Steps.{steps}
-use Rattle.runner.specs.Calls.{Out, runOf, backOf}
+use Rattle.call.specs.Calls.{Out, runOf, backOf}
 use Rattle.job.specs.Job.{loadOf}
 
 -- A call: a step, a run of a budget, or back by a number.

@@ -1,7 +1,6 @@
 pub mod Pointers
 pub mod Safe
 pub mod Ranges
-pub mod Short
 pub mod Opcodes
 pub mod Forms
 pub mod Blind

@@ -1,33 +1,24 @@
--- What a cell asks for, by its opcode: the opcodes of their own one by one, then all others by one law.
+-- What a cell asks for, by its opcode: the opcodes of their own one by one, 16 to 53 by their form, 80 to 106 by one law, and all others.
 -- Assumes nothing.
-use Prim.Native.Nat.{ℕ, _+_, _^_, _<_}
+use Prim.Native.Nat.{ℕ, _≤_}
 use mathlib.Core.Path.{_≡_, refl}
-use mathlib.Core.Bool.{Bool, true, false, cond, not, _&&_, _||_}
+use mathlib.Core.Bool.{Bool, true, false, cond, not, _||_}
 use native.Mathlib.Omega.{arith}
-use lib.Dec.{eqb}
-use Rattle.half.specs.Half.{seOf}
-use Rattle.word.specs.Operation.{Asked, Given, Turned, Other}
-use Rattle.word.specs.Word.{wrap, opOf, askedOf, operatedBy}
+use borrow.Author.Tests.{le-leb, ne-eqb}
+use Rattle.half.specs.declared.Extension.the-variants.{Se, Ex}
 use Rattle.cell.specs.declared.Form.{Form}
 use Rattle.cell.specs.declared.Form.the-variants as form
 use Rattle.cell.specs.declared.Instruction.the-variants.{Registers, Immediate}
-use Rattle.cell.specs.Cell.{legal, immediate, formOf, opcodeOf, nOf, mOf, lOf, immOf, decodeOf}
-use Rattle.cell.proofs.Tests.{count, everywhere, never, both-left, both-right}
-use Rattle.machine.specs.State.{State}
-use Rattle.effect.specs.Action.{Se, Ex, Value, R, Imm, Extended, Lower, Upper, Action, Cpswp, Ldst, Put, Split, Bz, Int, Float, operation, floats, actionOf}
-use Rattle.effect.specs.Operands.{nextOf, reg}
-use Rattle.effect.specs.Parts.{onward, still, _then_, gain}
-use Rattle.effect.specs.Effect.{effectOf}
-use Rattle.effect.specs.Refusal.{refusedBy}
-use Rattle.effect.specs.Becomes.{does, becameOf}
-use Rattle.effect.specs.Inner.{takesImm, remaining, ldstBy, transferBy}
+use Rattle.cell.specs.Cell.{within, legal, immediate, formOf, opcodeOf, nOf, mOf, lOf, immOf, readAs, decodeOf}
+use Rattle.cell.proofs.Tests.{count, everywhere, never}
+use Rattle.effect.specs.Action.{Imm, Extended, Lower, Upper, Cpswp, Ldst, Put, Split, Bz, Int, Float, Illegal, actionOf}
 
 -- a cell whose opcode is k, in k's form
-registers-at : (c k : ℕ) → opcodeOf c ≡ k → formOf k ≡ form.Registers → decodeOf c ≡ Registers k (nOf c) (mOf c) (lOf c)
+pub registers-at : (c k : ℕ) → opcodeOf c ≡ k → formOf k ≡ form.Registers → decodeOf c ≡ Registers k (nOf c) (mOf c) (lOf c)
 unfolding decodeOf
 registers-at c k e f = rw (e, f, e)
 
-immediate-at : (c k : ℕ) → opcodeOf c ≡ k → formOf k ≡ form.Immediate → decodeOf c ≡ Immediate k (nOf c) (immOf c)
+pub immediate-at : (c k : ℕ) → opcodeOf c ≡ k → formOf k ≡ form.Immediate → decodeOf c ≡ Immediate k (nOf c) (immOf c)
 unfolding decodeOf
 immediate-at c k e f = rw (e, f, e)
 
@@ -36,7 +27,7 @@ module _ (c : ℕ) where
   unfolding formOf legal immediate actionOf
   cpswp e = rw (registers-at c 0 e refl)
 
-  ldst : opcodeOf c ≡ 1 → actionOf (decodeOf c) ≡ Ldst (nOf c) (mOf c) (lOf c)
+  pub ldst : opcodeOf c ≡ 1 → actionOf (decodeOf c) ≡ Ldst (nOf c) (mOf c) (lOf c)
   unfolding formOf legal immediate actionOf
   ldst e = rw (registers-at c 1 e refl)
 
@@ -68,7 +59,7 @@ module _ (c : ℕ) where
   unfolding formOf legal immediate actionOf
   fsplit e = rw (registers-at c 107 e refl)
 
-  bz : opcodeOf c ≡ 121 → actionOf (decodeOf c) ≡ Bz (nOf c) (immOf c)
+  pub bz : opcodeOf c ≡ 121 → actionOf (decodeOf c) ≡ Bz (nOf c) (immOf c)
   unfolding formOf legal immediate actionOf
   bz e = rw (immediate-at c 121 e refl)
 
@@ -76,105 +67,30 @@ module _ (c : ℕ) where
   unfolding formOf legal immediate actionOf
   int e = rw (immediate-at c 122 e refl)
 
--- LDST and BZ, as the code comes to them
-module _ (c : ℕ) (s : State) where
-  pub transfers : opcodeOf c ≡ 1 → transferBy (nOf c) (reg s (nOf c)) (reg s (mOf c)) (reg s (lOf c)) (s .settings) (s .cells) (still s) ≡ becameOf (actionOf (decodeOf c)) s
-  unfolding becameOf refusedBy effectOf transferBy ldstBy
-  transfers e = rw (ldst c e)
+-- 80 to 106: every one of them is legal, and has no row of its own
+all-legal : count (λ (x : ℕ). not (not (within 80 106 x) || legal x)) 256 ≡ 0
+unfolding legal
+all-legal = refl
 
-  pub branches : opcodeOf c ≡ 121 → does (onward (cond (eqb (reg s (nOf c)) 0) (wrap (nextOf (s .regs) + seOf (immOf c))) (nextOf (s .regs))) (s .settings)) ≡ becameOf (actionOf (decodeOf c)) s
-  unfolding becameOf refusedBy effectOf
-  branches e = rw (bz c e) (go (eqb (reg s (nOf c)) 0))
-    where
-      go : (t : Bool) → does (onward (cond t (wrap (nextOf (s .regs) + seOf (immOf c))) (nextOf (s .regs))) (s .settings)) ≡ does (cond t (still s then gain (seOf (immOf c))) (still s))
-      go true = refl
-      go false = refl
+not-reserved : {P : Type 0} (t : Bool) → cond t form.Immediate form.Registers ≡ form.Reserved → P
+not-reserved true h = never (cc)
+not-reserved false h = never (cc)
 
--- the opcodes that are left, found by one test over all 256
-abbrev asks : Asked → Bool
-asks (Given op) = true
-asks (Turned op) = true
-asks Other = false
+module _ (c : ℕ) (low : 80 ≤ opcodeOf c) (high : opcodeOf c ≤ 106) where
+  is-legal : legal (opcodeOf c) ≡ true
+  is-legal = rw (le-leb 80 (opcodeOf c) low, le-leb (opcodeOf c) 106 high) at (everywhere (λ (x : ℕ). not (within 80 106 x) || legal x) 256 all-legal (opcodeOf c) (omega arith))
 
--- an operation's form goes by its operands; a float opcode asks for none; a reserved opcode is neither
-abbrev sorted : Form → Bool → Bool → Bool → Bool
-sorted form.Registers imm float asking = not imm
-sorted form.Immediate imm float asking = imm || float
-sorted form.Reserved imm float asking = not float && not asking
+  cases : (f : Form) → formOf (opcodeOf c) ≡ f → actionOf (readAs f c) ≡ Float
+  unfolding actionOf formOf
+  cases form.Registers e = rw (ne-eqb (opcodeOf c) 0 (λ z. omega arith), ne-eqb (opcodeOf c) 1 (λ z. omega arith), ne-eqb (opcodeOf c) 54 (λ z. omega arith), ne-eqb (opcodeOf c) 107 (λ z. omega arith), le-leb 80 (opcodeOf c) low, le-leb (opcodeOf c) 106 high)
+  cases form.Immediate e = rw (ne-eqb (opcodeOf c) 3 (λ z. omega arith), ne-eqb (opcodeOf c) 4 (λ z. omega arith), ne-eqb (opcodeOf c) 5 (λ z. omega arith), ne-eqb (opcodeOf c) 6 (λ z. omega arith), ne-eqb (opcodeOf c) 7 (λ z. omega arith), ne-eqb (opcodeOf c) 121 (λ z. omega arith), ne-eqb (opcodeOf c) 122 (λ z. omega arith), le-leb 80 (opcodeOf c) low, le-leb (opcodeOf c) 106 high)
+  cases form.Reserved e = not-reserved (immediate (opcodeOf c)) (rw is-legal at e)
 
-abbrev own : ℕ → Bool
-own x = eqb x 0 || eqb x 1 || eqb x 3 || eqb x 4 || eqb x 5 || eqb x 6 || eqb x 7 || eqb x 54 || eqb x 107 || eqb x 121 || eqb x 122
+  pub float : actionOf (decodeOf c) ≡ Float
+  unfolding decodeOf
+  float = cases (formOf (opcodeOf c)) refl
 
-abbrev right : ℕ → Bool
-right x = own x || (sorted (formOf x) (takesImm x) (floats x) (asks (askedOf x)) && not (asks (askedOf x) && floats x))
-
-all-right : count (λ (x : ℕ). not (right x)) 256 ≡ 0
-unfolding formOf legal immediate askedOf opOf
-all-right = refl
-
-not-true : (b : Bool) → not b ≡ true → b ≡ false
-not-true true e = never (cc)
-not-true false e = refl
-
-asks-none : (a : Asked) → asks a ≡ false → a ≡ Other
-asks-none (Given op) e = never (cc)
-asks-none (Turned op) e = never (cc)
-asks-none Other e = refl
-
--- the values that an operation reads
-abbrev firstOf : Bool → ℕ → ℕ → Value
-firstOf imm n m = cond imm (R n) (R m)
-
-abbrev secondOf : Bool → ℕ → ℕ → Value
-secondOf imm i l = cond imm (Extended Se i) (R l)
-
-abbrev leftOf : ℕ → ℕ → Action
-leftOf x c = cond (floats x) Float (operation (askedOf x) (nOf c) (firstOf (takesImm x) (nOf c) (mOf c)) (secondOf (takesImm x) (immOf c) (lOf c)))
-
--- what becomes of an operation, of a float opcode, and of a reserved one
-module _ (s : State) (n m l i : ℕ) where
-  both : (a : Asked) (imm float : Bool) → not (asks a && float) ≡ true
-      → remaining (operatedBy a (cond imm (reg s n) (reg s m)) (cond imm (seOf i) (reg s l)) (reg s n) (s .settings .flags)) float n (still s)
-      ≡ becameOf (cond float Float (operation a n (firstOf imm n m) (secondOf imm i l))) s
-  unfolding operatedBy becameOf refusedBy effectOf
-  both (Given op) true true h = never (cc)
-  both (Given op) false true h = never (cc)
-  both (Given op) true false h = refl
-  both (Given op) false false h = refl
-  both (Turned op) true true h = never (cc)
-  both (Turned op) false true h = never (cc)
-  both (Turned op) true false h = refl
-  both (Turned op) false false h = refl
-  both Other imm true h = refl
-  both Other imm false h = refl
-
-module _ (c : ℕ) (fits : c < 2 ^ 32)
-    (n0 : eqb (opcodeOf c) 0 ≡ false) (n1 : eqb (opcodeOf c) 1 ≡ false) (n3 : eqb (opcodeOf c) 3 ≡ false) (n4 : eqb (opcodeOf c) 4 ≡ false)
-    (n5 : eqb (opcodeOf c) 5 ≡ false) (n6 : eqb (opcodeOf c) 6 ≡ false) (n7 : eqb (opcodeOf c) 7 ≡ false) (n54 : eqb (opcodeOf c) 54 ≡ false)
-    (n107 : eqb (opcodeOf c) 107 ≡ false) (n121 : eqb (opcodeOf c) 121 ≡ false) (n122 : eqb (opcodeOf c) 122 ≡ false) where
-  rightly : (sorted (formOf (opcodeOf c)) (takesImm (opcodeOf c)) (floats (opcodeOf c)) (asks (askedOf (opcodeOf c))) && not (asks (askedOf (opcodeOf c)) && floats (opcodeOf c))) ≡ true
-  rightly = rw (n0, n1, n3, n4, n5, n6, n7, n54, n107, n121, n122) at (everywhere right 256 all-right (opcodeOf c) (omega arith))
-
-  cases : (f : Form) → formOf (opcodeOf c) ≡ f → sorted f (takesImm (opcodeOf c)) (floats (opcodeOf c)) (asks (askedOf (opcodeOf c))) ≡ true → actionOf (decodeOf c) ≡ leftOf (opcodeOf c) c
-  unfolding decodeOf actionOf
-  cases form.Registers e t = rw (e, n0, n1, n54, n107, not-true (takesImm (opcodeOf c)) t)
-  cases form.Immediate e t = rw (e, n3, n4, n5, n6, n7, n121, n122) (go (takesImm (opcodeOf c)) (floats (opcodeOf c)) t)
-    where
-      go : (imm float : Bool) → (imm || float) ≡ true
-          → cond float Float (operation (askedOf (opcodeOf c)) (nOf c) (R (nOf c)) (Extended Se (immOf c)))
-          ≡ cond float Float (operation (askedOf (opcodeOf c)) (nOf c) (firstOf imm (nOf c) (mOf c)) (secondOf imm (immOf c) (lOf c)))
-      go true float h = refl
-      go false true h = refl
-      go false false h = never (cc)
-  cases form.Reserved e t =
-      let f = not-true (floats (opcodeOf c)) (both-left (not (floats (opcodeOf c))) (not (asks (askedOf (opcodeOf c)))) t) in
-      let a = asks-none (askedOf (opcodeOf c)) (not-true _ (both-right (not (floats (opcodeOf c))) (not (asks (askedOf (opcodeOf c)))) t)) in
-      rw (e, f, a)
-
-  pub all-others : (s : State)
-      → remaining (operatedBy (askedOf (opcodeOf c)) (cond (takesImm (opcodeOf c)) (reg s (nOf c)) (reg s (mOf c))) (cond (takesImm (opcodeOf c)) (seOf (immOf c)) (reg s (lOf c))) (reg s (nOf c)) (s .settings .flags)) (floats (opcodeOf c)) (nOf c) (still s)
-      ≡ becameOf (actionOf (decodeOf c)) s
-  all-others s =
-      let form-fits = both-left (sorted (formOf (opcodeOf c)) (takesImm (opcodeOf c)) (floats (opcodeOf c)) (asks (askedOf (opcodeOf c)))) (not (asks (askedOf (opcodeOf c)) && floats (opcodeOf c))) rightly in
-      let alone = both-right (sorted (formOf (opcodeOf c)) (takesImm (opcodeOf c)) (floats (opcodeOf c)) (asks (askedOf (opcodeOf c)))) (not (asks (askedOf (opcodeOf c)) && floats (opcodeOf c))) rightly in
-      rw (cases (formOf (opcodeOf c)) refl form-fits) (both s (nOf c) (mOf c) (lOf c) (immOf c) (askedOf (opcodeOf c)) (takesImm (opcodeOf c)) (floats (opcodeOf c)) alone)
+-- an opcode that is not legal
+pub reserved : (c : ℕ) → legal (opcodeOf c) ≡ false → actionOf (decodeOf c) ≡ Illegal
+unfolding formOf decodeOf actionOf
+reserved c e = rw e

@@ -8,18 +8,18 @@ use lib.ListN.{getD}
 use Rattle.word.specs.Operation.{Asked, Given, Turned, Other}
 use Rattle.word.specs.Word.{askedOf}
 use Rattle.word.proofs.Bounds.{value-below}
-use Rattle.half.proofs.Bounds.{se-below, ex-below}
+use Rattle.half.proofs.Bounds.{extended-below}
 use Rattle.cell.specs.declared.Instruction.{Instruction}
 use Rattle.cell.specs.declared.Instruction.the-variants.{Registers, Immediate, Reserved}
 use Rattle.cell.proofs.Fields as fields
 use Rattle.machine.specs.State.{State, firstSpecial, InRange}
 use Rattle.machine.proofs.Tests.{picked}
-use Rattle.effect.specs.declared.Write.{Write}
-use Rattle.effect.specs.declared.Effect.{Effect}
-use Rattle.effect.specs.Action.{Extension, Se, Ex, Value, R, Imm, Extended, Lower, Upper, Action, Cpswp, Ldst, Put, Split, Bz, Int, Float, Illegal, operation, floats, actionOf}
+use Rattle.effect.specs.Parts.{Write, Effect, noWrite, still, store, load}
+use Rattle.half.specs.declared.Extension.{Extension}
+use Rattle.half.specs.declared.Extension.the-variants.{Se, Ex}
+use Rattle.effect.specs.Action.{Value, R, Imm, Extended, Lower, Upper, Action, Cpswp, Ldst, Put, Split, Bz, Int, Float, Illegal, operation, floats, actionOf}
 use Rattle.machine.specs.Addresses.{flagsAddress, maskAddress, modeAddress}
-use Rattle.effect.specs.Operands.{nextOf, operandOf, reg, extended, valueOf, behind}
-use Rattle.effect.specs.Parts.{noWrite, still, store, load}
+use Rattle.effect.specs.Operands.{nextOf, operandOf, reg, valueOf, behind}
 use Rattle.effect.specs.Effect.{illegalLoad, illegalStore, effectOf}
 
 abbrev pub Word : ℕ → Type 0
@@ -39,10 +39,6 @@ unused = (omega arith, omega arith)
 
 either : (t : _) (x y : ℕ) → Word x → Word y → Word (cond t x y)
 either t x y p q = picked Word t x y (λ h. p) (λ h. q)
-
-extended-below : (e : Extension) (x : ℕ) → x < 2 ^ 16 → Word (extended e x)
-extended-below Se x h = se-below x h
-extended-below Ex x h = ex-below x h
 
 module _ (s : State) (words : (i : ℕ) → Word (getD (s .regs) i 0)) (cell-words : (i : ℕ) → Word (getD (s .cells) i 0)) (settled : InRange (s .settings)) where
   reg-below : (i : ℕ) → Word (reg s i)
@@ -130,10 +126,10 @@ module _ (s : State) (words : (i : ℕ) → Word (getD (s .regs) i 0)) (cell-wor
       picked Fine (eqb x 3) _ _ (λ t. put n (Lower n imm) (f .2) (omega (arith, f .3))) (λ t.
       picked Fine (eqb x 4) _ _ (λ t. put n (Upper n imm) (f .2) (omega (arith, f .3))) (λ t.
       picked Fine (eqb x 5) _ _ (λ t. put n (Imm imm) (f .2) (omega (arith, f .3))) (λ t.
-      picked Fine (eqb x 6) _ _ (λ t. put n (Extended Se imm) (f .2) (se-below imm (f .3))) (λ t.
-      picked Fine (eqb x 7) _ _ (λ t. put n (Extended Ex imm) (f .2) (ex-below imm (f .3))) (λ t.
+      picked Fine (eqb x 6) _ _ (λ t. put n (Extended Se imm) (f .2) (extended-below Se imm (f .3))) (λ t.
+      picked Fine (eqb x 7) _ _ (λ t. put n (Extended Ex imm) (f .2) (extended-below Ex imm (f .3))) (λ t.
       picked Fine (eqb x 121) _ _ (λ t. bz n imm) (λ t.
       picked Fine (eqb x 122) _ _ (λ t. int n imm) (λ t.
       picked Fine (floats x) _ _ (λ t. float) (λ t.
-      operated (askedOf x) n (R n) (Extended Se imm) (f .2) h (se-below imm (f .3))))))))))
+      operated (askedOf x) n (R n) (Extended Se imm) (f .2) h (extended-below Se imm (f .3))))))))))
   ranged (Reserved c) f = reserved

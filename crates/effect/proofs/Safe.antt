@@ -14,11 +14,10 @@ use Rattle.machine.specs.declared.Settings.{Settings}
 use Rattle.machine.specs.State.{State, flagsBound, firstSpecial, InRange}
 use Rattle.machine.proofs.Flags.{flags-or}
 use Rattle.machine.proofs.Tests.{picked, or-right}
-use Rattle.effect.specs.declared.Effect.{Effect}
+use Rattle.effect.specs.Parts.{Effect, still, flagsOf, illegal, store, load}
 use Rattle.effect.specs.Action.{Action, Cpswp, Ldst, Put, Operate, Split, Bz, Int, Float, Illegal}
 use Rattle.machine.specs.Addresses.{maskAddress, modeAddress}
 use Rattle.effect.specs.Operands.{reg, valueOf}
-use Rattle.effect.specs.Parts.{still, flagsOf, illegal, store, load}
 use Rattle.effect.specs.Effect.{illegalLoad, illegalStore, effectOf}
 use Rattle.effect.specs.Refusal.{faults, refusedBy}
 use Rattle.effect.proofs.Pointers.{no-fault}

@@ -3,16 +3,14 @@ use Prim.Native.Nat.{ℕ}
 use mathlib.Core.Bool.{Bool, cond}
 use mathlib.Core.List.{List, [], _∷_}
 use lib.Dec.{eqb}
-use Rattle.word.specs.Operation.{Op, Asked, Given, Turned, Other}
+use Rattle.word.specs.declared.Op.{Op}
+use Rattle.half.specs.declared.Extension.{Extension}
+use Rattle.half.specs.declared.Extension.the-variants.{Se, Ex}
+use Rattle.word.specs.Operation.{Asked, Given, Turned, Other}
 use Rattle.word.specs.Word.{askedOf}
 use Rattle.cell.specs.declared.Instruction.{Instruction}
 use Rattle.cell.specs.declared.Instruction.the-variants.{Registers, Immediate, Reserved}
 use Rattle.cell.specs.Cell.{within}
-
--- The two ways to make 32 bits of 16: se and ex.
-pub data Extension : Type 0 where
-  Se : Extension
-  Ex : Extension
 
 -- A value that an instruction reads: a register's, imm itself, imm extended, or a register's with its lower or upper half replaced by imm.
 pub data Value : Type 0 where

@@ -2,7 +2,7 @@
 use Prim.Native.Nat.{ℕ}
 use mathlib.Core.Option.{Option, none, some}
 use Rattle.machine.specs.State.{State}
-use Rattle.effect.specs.declared.Effect.{Effect}
+use Rattle.effect.specs.Parts.{Effect}
 use Rattle.effect.specs.Action.{Action}
 use Rattle.effect.specs.Effect.{effectOf}
 use Rattle.effect.specs.Refusal.{refusedBy}

@@ -2,15 +2,13 @@
 use Prim.Native.Nat.{ℕ, _/_, _%_}
 use mathlib.Core.Bool.{Bool, cond, _||_}
 use lib.Dec.{leb, ltb, eqb}
-use Rattle.half.specs.Half.{seOf}
+use Rattle.half.specs.Half.{seOf, extended}
 use Rattle.word.specs.Word.{writtenOf}
 use Rattle.machine.specs.State.{State, flagsBound, firstSpecial}
-use Rattle.effect.specs.declared.Answer.the-variants.{Interrupt}
-use Rattle.effect.specs.declared.Effect.{Effect}
+use Rattle.effect.specs.Parts.{Interrupt, Effect, still, _then_, writeA, writeB, gain, say, result, illegal, store, load}
 use Rattle.effect.specs.Action.{Action, Cpswp, Ldst, Put, Operate, Split, Bz, Int, Float, Illegal}
 use Rattle.machine.specs.Addresses.{maskAddress, modeAddress}
-use Rattle.effect.specs.Operands.{reg, extended, valueOf, behind}
-use Rattle.effect.specs.Parts.{still, _then_, writeA, writeB, gain, say, result, illegal, store, load}
+use Rattle.effect.specs.Operands.{reg, valueOf, behind}
 
 -- Illegal: a load past the mode's address; above memory, a store to any address but the mask's and the mode's, or of a value too large for it.
 abbrev pub illegalLoad : ℕ → Bool

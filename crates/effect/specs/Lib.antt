@@ -4,5 +4,3 @@ pub mod Parts
 pub mod Effect
 pub mod Refusal
 pub mod Becomes
-pub mod Answers
-pub mod Inner

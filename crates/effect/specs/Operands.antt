@@ -4,11 +4,11 @@ use mathlib.Core.Bool.{cond}
 use mathlib.Core.List.{List}
 use lib.Dec.{ltb, eqb}
 use lib.ListN.{getD}
-use Rattle.half.specs.Half.{seOf, exOf}
+use Rattle.half.specs.Half.{extended}
 use Rattle.machine.specs.declared.Settings.{Settings}
 use Rattle.machine.specs.State.{State, firstSpecial, pcOf}
 use Rattle.machine.specs.Addresses.{flagsAddress, maskAddress}
-use Rattle.effect.specs.Action.{Extension, Se, Ex, Value, R, Imm, Extended, Lower, Upper}
+use Rattle.effect.specs.Action.{Value, R, Imm, Extended, Lower, Upper}
 
 -- the PC that an instruction sees: one past its own cell, in 32 bits
 abbrev pub nextOf : List ℕ → ℕ
@@ -21,11 +21,6 @@ operandOf regs i = cond (eqb i 255) (nextOf regs) (getD regs i 0)
 -- Ri, before the step
 abbrev pub reg : State → ℕ → ℕ
 reg s i = operandOf (s .regs) i
-
--- by se or by ex
-abbrev pub extended : Extension → ℕ → ℕ
-extended Se x = seOf x
-extended Ex x = exOf x
 
 -- what a value is: Lower and Upper keep the register's other half
 abbrev pub valueOf : State → Value → ℕ

@@ -7,15 +7,38 @@ use Rattle.word.specs.declared.Written.{Written}
 use Rattle.word.specs.Word.{wrap}
 use Rattle.machine.specs.declared.Settings.{Settings}
 use Rattle.machine.specs.State.{State}
-use Rattle.effect.specs.declared.Write.{Write}
-use Rattle.effect.specs.declared.Store.{Store}
-use Rattle.effect.specs.declared.Answer.{Answer}
-use Rattle.effect.specs.declared.Answer.the-variants.{Onward}
-use Rattle.effect.specs.declared.Effect.{Effect}
 use Rattle.machine.specs.Addresses.{maskAddress, modeAddress}
 use Rattle.effect.specs.Operands.{nextOf}
 
 infixl 20 _then_
+-- A register that a step writes, and a cell that it stores to memory, each where it is used.
+pub record Write : Type 0 where
+  pub used : Bool
+  pub number : ℕ
+  pub value : ℕ
+
+pub record Store : Type 0 where
+  pub used : Bool
+  pub address : ℕ
+  pub value : ℕ
+
+-- What an instruction answers: to go on, or INT with its two values.
+pub data Answer : Type 0 where
+  Onward : Answer
+  Interrupt : ℕ → ℕ → Answer
+
+-- What an instruction does: the next PC, the flags that it wrote as 1, the settings, at most two registers (b first if reversed),
+-- at most one cell.
+pub record Effect : Type 0 where
+  pub pc : ℕ
+  pub raised : ℕ
+  pub settings : Settings
+  pub a : Write
+  pub b : Write
+  pub reversed : Bool
+  pub store : Store
+  pub answer : Answer
+
 -- The registers that a step writes, by their names in the journal, and whether b is written before a.
 pub record Writes : Type 0 where
   pub a : Write

@@ -1,6 +1,12 @@
 // Sixteen bits made 32: se for integers, ex for floats.
 ghost use mathlib.Core.Path.{_≡_};
-ghost use Rattle.half.specs.Half.{seOf, exOf};
+ghost use Rattle.half.specs.Half.{seOf, exOf, extended};
+
+// The two ways to make 32 bits of 16.
+pub enum Extension {
+    Se,
+    Ex,
+}
 
 // The sign bit copied upward, in a form that becomes one instruction.
 pub fn se(x: u16) -> u32
@@ -21,5 +27,15 @@ pub fn ex(x: u16) -> u32
         sign + exponent * 8388608 + fraction
     } else {
         sign + (224 + exponent) * 8388608 + fraction
+    }
+}
+
+// Sixteen bits made 32 in one of the two ways.
+pub fn extend(by: Extension, x: u16) -> u32
+    ensures { λ r. ⌜ r ≡ extended by x ⌝ }
+{
+    match by {
+        Extension::Se => se(x),
+        Extension::Ex => ex(x),
     }
 }

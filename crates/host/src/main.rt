@@ -1,8 +1,8 @@
 // Reads a job from standard input, runs it, and writes one line of what became of it.
+use call::Ran;
 use job::Answer;
 use libc::STDIN_FILENO;
 use libc::STDOUT_FILENO;
-use runner::Ran;
 use saver::Saved;
 
 // Released with the saved job's length, held with the stop's number, or refused with the refusal's number.
@@ -24,7 +24,7 @@ fn clean(ran: Ran) -> bool {
 fn settle(ran: Ran, cells: &mut [u32], journal: &[u32], room: &mut [u8]) -> Became {
     let stop = ran.stop;
     if !clean(ran) {
-        runner::back(ran.machine, cells, journal, ran.count);
+        backward::back(ran.machine, cells, journal, ran.count);
         return Became::Held(stop.number());
     }
     let saved = saver::save(ran.machine, cells, room);
@@ -44,7 +44,7 @@ fn scrub(job: &[u8], cells: &mut [u32], journal: &mut [u32], room: &mut [u8]) ->
     match answer {
         Answer::Refused { why, offset: _ } => Became::Refused(why.number()),
         Answer::Done => {
-            let ran = runner::run(loaded.machine, cells, journal, 400);
+            let ran = forward::run(loaded.machine, cells, journal, 400);
             settle(ran, cells, journal, room)
         }
     }

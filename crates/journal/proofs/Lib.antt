@@ -3,5 +3,5 @@ pub mod Words
 pub mod Damage
 pub mod Room
 pub mod Undo
-pub mod Named
 pub mod Undoing
+pub mod Back

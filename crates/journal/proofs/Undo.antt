@@ -12,8 +12,7 @@ use lib.ListN.{length, getD, set, take, drop, length-set}
 use lib.Seq.{length-sets, length-take-le}
 use lib.Dec.{leb, ltb, eqb}
 use borrow.Author.Tests.{lt-leb, le-ltb, le-leb, lt-ltb}
-use Rattle.effect.specs.declared.Write.{Write}
-use Rattle.effect.specs.declared.Effect.{Effect}
+use Rattle.effect.specs.Parts.{Write, Effect}
 use Rattle.machine.specs.State.{pcOf, InRange, State}
 use Rattle.packed.specs.Packed.{unpackedOf, packedBound}
 use Rattle.packed.proofs.Laws.{packed-below, unpacked-packed}

@@ -1,17 +1,15 @@
 -- Applying an effect, which leaves an entry, and going back by the last one: document 01, 'The journal entry'.
 use Prim.Native.Nat.{ℕ, _+_, _-_}
 use mathlib.Core.Bool.{Bool, true, false, cond, not, _&&_, _||_}
-use mathlib.Core.Option.{Option, none, some}
 use mathlib.Core.List.{List}
 use lib.Bits.{bitOr}
-use lib.Dec.{leb, ltb, eqb}
+use lib.Dec.{leb, ltb}
 use lib.ListN.{length, getD, set, take, drop}
 use lib.Seq.{sets}
 use Rattle.machine.specs.declared.Settings.{Settings}
 use Rattle.machine.specs.State.{State, writeIf, firstSpecial, pcOf}
 use Rattle.packed.specs.Packed.{unpackedOf, packedBound}
-use Rattle.effect.specs.declared.Write.{Write}
-use Rattle.effect.specs.declared.Effect.{Effect}
+use Rattle.effect.specs.Parts.{Write, Effect}
 use Rattle.journal.specs.declared.Entry.{Entry}
 use Rattle.journal.specs.Words.{eightOf, entryIn, startOf, entryWith, numberA, numberB, usesA, usesB, usesStore}
 
@@ -56,19 +54,20 @@ applyOf e s = record {
 unfoldable pub lastOf : List ℕ → ℕ → Entry
 lastOf journal depth = entryIn (take 8 (drop (startOf (depth - 1)) journal))
 
--- Whether an entry of a machine with m cells cannot be one: PC past the cells, settings or registers out of range, a use that does not
--- exist, or a store outside memory.
+-- PC past m cells, or settings or registers out of range
+abbrev pub outOfRange : ℕ → Entry → Bool
+outOfRange m e = leb m (e .pc) || leb packedBound (e .settings) || leb 65536 (e .numbers)
+
+-- Whether an entry of a machine with m cells cannot be one: out of range, a use that does not exist, or a store outside memory.
 unfoldable pub damagedOf : ℕ → Entry → Bool
-damagedOf m e =
-    leb m (e .pc)
-    || leb packedBound (e .settings)
-    || leb 65536 (e .numbers)
-    || ltb 7 (e .uses)
-    || (usesStore e && not (leb 1 (e .address) && ltb (e .address) m))
+damagedOf m e = outOfRange m e || ltb 7 (e .uses) || (usesStore e && not (leb 1 (e .address) && ltb (e .address) m))
 
 -- Registers, in the order a, b, PC, and cells as an entry has them.
+abbrev pub restored : Entry → List ℕ → List ℕ
+restored e regs = writeIf (usesB e) (writeIf (usesA e) regs (numberA e) (e .a)) (numberB e) (e .b)
+
 unfoldable pub regsBefore : Entry → List ℕ → List ℕ
-regsBefore e regs = set (writeIf (usesB e) (writeIf (usesA e) regs (numberA e) (e .a)) (numberB e) (e .b)) 255 (e .pc)
+regsBefore e regs = set (restored e regs) 255 (e .pc)
 
 unfoldable pub cellsBefore : Entry → List ℕ → List ℕ
 cellsBefore e cells = writeIf (usesStore e) cells (e .address) (e .old)
@@ -86,20 +85,13 @@ restoreOf e s = record {
 abbrev pub undoOf : State → State
 undoOf s = restoreOf (lastOf (s .journal) (s .depth)) s
 
--- What a step back leaves: the state, and stop 8, 9 or none. 8 is also for a journal that is shorter than its depth.
-pub record Gone : Type 0 where
-  pub state : State
-  pub stop : Option ℕ
-
-abbrev pub noneLast : List ℕ → ℕ → Bool
-noneLast journal depth = eqb depth 0 || ltb (length journal) (startOf depth)
-
-unfoldable pub takenBack : State → Gone
-takenBack s =
-    cond (noneLast (s .journal) (s .depth)) (record { state = s; stop = some 8 })
-    (cond (damagedOf (length (s .cells)) (lastOf (s .journal) (s .depth))) (record { state = s; stop = some 9 })
-    (record { state = undoOf s; stop = none }))
-
 -- A part of the journal with an entry at its start; one that is shorter than an entry is left as it is.
 abbrev pub entered : List ℕ → Entry → List ℕ
 entered part e = cond (ltb (length part) 8) part (sets part 0 (eightOf e))
+
+-- The entry at a part's start; all 0 if the part is shorter than an entry.
+abbrev pub noEntry : Entry
+noEntry = record { pc = 0; settings = 0; numbers = 0; a = 0; b = 0; address = 0; old = 0; uses = 0 }
+
+unfoldable pub firstIn : List ℕ → Entry
+firstIn part = cond (ltb (length part) 8) noEntry (entryIn part)

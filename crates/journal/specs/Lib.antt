@@ -1,4 +1,3 @@
 pub mod Words
 pub mod Journal
 pub mod Undos
-pub mod Answers

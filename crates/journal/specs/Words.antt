@@ -7,8 +7,7 @@ use lib.ListN.{getD}
 use Rattle.machine.specs.declared.Settings.{Settings}
 use Rattle.machine.specs.State.{pcOf}
 use Rattle.packed.specs.Packed.{packedOf}
-use Rattle.effect.specs.declared.Write.{Write}
-use Rattle.effect.specs.declared.Store.{Store}
+use Rattle.effect.specs.Parts.{Write, Store}
 use Rattle.journal.specs.declared.Entry.{Entry}
 
 -- The words in their order, 0 to 7, and an entry from such a list.

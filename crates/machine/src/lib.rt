@@ -1,8 +1,7 @@
-// The machine by value, 256 registers, settings and depth; what a call can say; what is asked of M, settings and journal; a write that may be none.
+// The machine by value, 256 registers, settings and depth; what a call can say; what is asked of M, settings and journal.
 ghost use mathlib.Core.Path.{_≡_};
 ghost use mathlib.Core.Bool.{not};
-ghost use lib.ListN.{getD};
-ghost use Rattle.machine.specs.State.{freshMachine, badCells, badSettings, entriesIn, writeIf};
+ghost use Rattle.machine.specs.State.{freshMachine, badCells, badSettings, entriesIn};
 ghost use Rattle.machine.specs.Stops.{saidOf};
 
 // The addresses from 0xFFFF0000 on that LDST knows. A PC there or above has ended.
@@ -139,32 +138,9 @@ pub fn capacity(words: usize) -> u32
     }
 }
 
-// A register write that is made if it is used.
-pub fn write_register(regs: &mut [u32; 256], used: bool, number: u8, value: u32)
-    ensures { λ r. ⌜ now (regs .exit) ≡ writeIf used (now (regs .entry)) number value ⌝ }
+// A word as an index of cells.
+pub fn index_of(x: u32) -> usize
+    ensures { λ r. ⌜ r ≡ x ⌝ }
 {
-    if used {
-        let i = number as usize;
-        regs[i] = value;
-    }
-}
-
-// The same for a cell; past the cells there is none.
-pub fn write_cell(cells: &mut [u32], used: bool, address: u32, value: u32)
-    ensures { λ r. ⌜ now (cells .exit) ≡ writeIf used (now (cells .entry)) address value ⌝ }
-{
-    if used {
-        let i = address as usize;
-        if i < cells.len() {
-            cells[i] = value;
-        }
-    }
-}
-
-// The cell at an address; past the cells it is 0.
-pub fn read_cell(cells: &[u32], address: u32) -> u32
-    ensures { λ r. ⌜ r ≡ getD (now (cells .entry)) address 0 ⌝ }
-{
-    let i = address as usize;
-    if i < cells.len() { cells[i] } else { 0 }
+    x as usize
 }

@@ -13,7 +13,7 @@ use Rattle.effect.specs.Refusal.{refusedBy}
 use Rattle.machine.specs.State.{freshMachine, entriesIn, capacityOf}
 use Rattle.journal.specs.Journal.{regsAfter, cellsAfter, settingsAfter, entryOf}
 use Rattle.step.specs.Step.{refusalOf, effectIn, courseOf, stepOf}
-use Rattle.runner.specs.Calls.{runFrom, checkOf}
+use Rattle.call.specs.Calls.{runFrom, checkOf}
 use Rattle.lent.specs.Little.{littleOf, numberAt}
 use Rattle.job.specs.Job.{kindBy, wordsOf, inOrder, fateOf, refusalFrom, contentFrom, refusalIn}
 use Rattle.outcome.specs.Outcome.{outcomeOf}

@@ -7,7 +7,7 @@ use lib.ListN.{length}
 use Rattle.machine.specs.declared.Machine.{Machine}
 use Rattle.machine.specs.State.{freshMachine, stateOf}
 use Rattle.machine.specs.Stops.{Said}
-use Rattle.runner.specs.Calls.{Out, runOf}
+use Rattle.call.specs.Calls.{Out, runOf}
 use Rattle.job.specs.Job.{Load, loadOf}
 
 -- what is lent and granted: cells, entries of eight words, the budget, and the longest input in bytes

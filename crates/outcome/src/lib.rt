@@ -66,7 +66,7 @@ pub fn run_job(input: &[u8], cells: &mut [u32], journal: &mut [u32]) -> Outcome
     match answer {
         Answer::Refused { why, offset } => refused(why.number(), offset as u64),
         Answer::Done => {
-            let ran = runner::run(loaded.machine, cells, journal, Sizes::BUDGET);
+            let ran = forward::run(loaded.machine, cells, journal, Sizes::BUDGET);
             let machine = ran.machine;
             let stop = ran.stop;
             let count = ran.count;

@@ -33,3 +33,10 @@ pub fn unpack(s: u32) -> Settings
         mode: s / MODE_UNIT,
     }
 }
+
+// The flags of a word.
+pub fn flags_of(s: u32) -> u32
+    ensures { λ r. ⌜ r ≡ unpackedOf s .flags ⌝ }
+{
+    s % Settings::FLAGS_BOUND
+}

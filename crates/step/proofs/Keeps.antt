@@ -21,7 +21,7 @@ use Rattle.machine.specs.Lawful.{Ready, Lawful, Words}
 use Rattle.machine.proofs.Flags.{flags-or}
 use Rattle.machine.proofs.Words.{set-words}
 use Rattle.cell.proofs.Fields.{decoded-in-range}
-use Rattle.effect.specs.declared.Write.{Write}
+use Rattle.effect.specs.Parts.{Write}
 use Rattle.effect.proofs.Safe.{Safe, safe}
 use Rattle.effect.proofs.Ranges.{Ranged, ranged}
 use Rattle.journal.proofs.Undo.{Formed, length-regs, lengths}

@@ -1,4 +1,3 @@
 pub mod Steps
 pub mod Keeps
-pub mod Named
 pub mod Repeats

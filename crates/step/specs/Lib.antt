@@ -1,4 +1,2 @@
 pub mod Step
-pub mod Answers
-pub mod Inner
 pub mod Steps

@@ -9,9 +9,7 @@ use lib.ListN.{getD, length}
 use Rattle.cell.specs.Cell.{decodeOf}
 use Rattle.effect.specs.Action.{Action, actionOf}
 use Rattle.effect.specs.Refusal.{refusedBy}
-use Rattle.effect.specs.declared.Effect.{Effect}
-use Rattle.effect.specs.declared.Answer.{Answer}
-use Rattle.effect.specs.declared.Answer.the-variants.{Onward, Interrupt}
+use Rattle.effect.specs.Parts.{Effect, Answer, Onward, Interrupt}
 use Rattle.machine.specs.State.{State, capacityOf, pcOf}
 use Rattle.effect.specs.Effect.{effectOf}
 use Rattle.journal.specs.Journal.{endedOf, regsAfter, applyOf}
@@ -56,9 +54,12 @@ pub record Moved : Type 0 where
   pub state : State
   pub course : Course
 
+abbrev pub doneOf : Effect → State → Moved
+doneOf e s = record { state = applyOf e s; course = courseOf e (s .regs) }
+
 abbrev pub moved : Option ℕ → State → Moved
 moved (some k) s = record { state = s; course = refused (plainly k) }
-moved none s = record { state = applyOf (effectIn s) s; course = courseOf (effectIn s) (s .regs) }
+moved none s = doneOf (effectIn s) s
 
 unfoldable pub stepOf : State → Moved
 stepOf s = moved (refusalOf s) s

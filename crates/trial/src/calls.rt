@@ -10,10 +10,10 @@ use crate::payload::byte_at;
 use crate::payload::half_at;
 use crate::payload::long_at;
 use crate::payload::word_at;
+use call::Ran;
 use lent::least_words;
 use machine::Machine;
 use machine::Stop;
-use runner::Ran;
 use std::num::wrapping_add_usize;
 
 // Writes a stop's number, and the values of an INT.
@@ -44,12 +44,12 @@ fn put_ran(ran: Ran, cells: &[u32], journal: &[u32]) {
 // One call by its kind: 0 step, 1 run, else back.
 fn call(m: Machine, cells: &mut [u32], journal: &mut [u32], kind: u8, number: u64) -> Ran {
     if kind == 0 {
-        return runner::step(m, cells, journal);
+        return forward::step(m, cells, journal);
     }
     if kind == 1 {
-        return runner::run(m, cells, journal, number);
+        return forward::run(m, cells, journal, number);
     }
-    runner::back(m, cells, journal, number)
+    backward::back(m, cells, journal, number)
 }
 
 // Makes the calls that stand at a place of a payload, their count first, and writes a line for each.

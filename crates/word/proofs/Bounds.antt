@@ -1,5 +1,5 @@
 -- What callers need of an operation, in place of its text: its value is a 32-bit number, the flags that it raises are among those
--- that it governs, and those are below 512.
+-- that it governs, and both are below 32.
 -- Assumes nothing.
 use Prim.Native.Nat.{ℕ, zero, suc, _+_, _-_, _*_, _/_, _%_, _^_, _≤_, _<_}
 use mathlib.Core.Path.{_≡_, refl}
@@ -13,7 +13,8 @@ use lib.Signed.{mag, ltZ, leZ, quotZ, shrZ, mag-shr}
 use mir.Syntax.{w32}
 use mir.Val.{ofZ}
 use mir.ValLaws.{toZ-fits}
-use Rattle.word.specs.Operation.{Op, Add, Adc, Sub, Sbb, Mul, Udiv, Sdiv, Mod, And, Or, Xor, Nand, Lnand, Lsh, Ursh, Srsh, Ugt, Sgt, Eq}
+use Rattle.word.specs.declared.Op.{Op}
+use Rattle.word.specs.declared.Op.the-variants.{Add, Adc, Sub, Sbb, Mul, Udiv, Sdiv, Mod, And, Or, Xor, Nand, Lnand, Lsh, Ursh, Srsh, Ugt, Sgt, Eq}
 use Rattle.word.specs.Word.{carryOf, borrowOf, signed, truth, when, sdivBy, lshBy, urshBy, srshBy, writtenOf}
 
 -- the flags g, all written as 1 or all as 0

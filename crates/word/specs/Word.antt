@@ -10,9 +10,9 @@ use lib.Signed.{ltZ, leZ, quotZ, shrZ}
 use mir.Syntax.{w32}
 use mir.Val.{toZ, ofZ}
 use Rattle.word.specs.declared.Written.{Written}
-use Rattle.word.specs.declared.Operated.{Operated}
-use Rattle.word.specs.declared.Operated.the-variants.{Wrote, Nothing}
-use Rattle.word.specs.Operation.{Op, Add, Adc, Sub, Sbb, Mul, Udiv, Sdiv, Mod, And, Or, Xor, Nand, Lnand, Lsh, Ursh, Srsh, Ugt, Sgt, Eq, Asked, Given, Turned, Other}
+use Rattle.word.specs.declared.Op.{Op}
+use Rattle.word.specs.declared.Op.the-variants.{Add, Adc, Sub, Sbb, Mul, Udiv, Sdiv, Mod, And, Or, Xor, Nand, Lnand, Lsh, Ursh, Srsh, Ugt, Sgt, Eq}
+use Rattle.word.specs.Operation.{Asked, Given, Turned, Other}
 
 -- the lowest 32 bits of a number
 abbrev pub wrap : ℕ → ℕ
@@ -164,9 +164,3 @@ askedOf opcode =
     (cond (leb opcode 51) (Given (opOf (opcode - 17)))
     (cond (eqb opcode 52) (Turned Ugt)
     (cond (eqb opcode 53) (Turned Sgt) Other)))))
-
--- what an opcode writes by what it asks for
-unfoldable pub operatedBy : Asked → ℕ → ℕ → ℕ → ℕ → Operated
-operatedBy (Given op) m l n flags = Wrote (writtenOf op m l n flags)
-operatedBy (Turned op) m l n flags = Wrote (writtenOf op l m n flags)
-operatedBy Other m l n flags = Nothing

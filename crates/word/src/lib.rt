@@ -1,7 +1,7 @@
 // What an operation does with two 32-bit operand values: the value that it writes, the flags that it governs, and those of them
-// that it writes as 1. Both operand forms go through `operate`, by one match on the opcode.
+// that it writes as 1.
 ghost use mathlib.Core.Path.{_≡_};
-ghost use Rattle.word.specs.Word.{askedOf, operatedBy};
+ghost use Rattle.word.specs.Word.{writtenOf};
 
 mod arithmetic;
 mod compare;
@@ -45,17 +45,34 @@ impl Flag {
     pub const TERMINATION: u32 = 256;
 }
 
+// The operations, in the order of their opcodes 16 to 34.
+pub enum Op {
+    Add,
+    Adc,
+    Sub,
+    Sbb,
+    Mul,
+    Udiv,
+    Sdiv,
+    Mod,
+    And,
+    Or,
+    Xor,
+    Nand,
+    Lnand,
+    Lsh,
+    Ursh,
+    Srsh,
+    Ugt,
+    Sgt,
+    Eq,
+}
+
 // What an operation writes: its value, the flags that it governs, and those of them that become 1.
 pub struct Written {
     pub value: u32,
     pub governed: u32,
     pub raised: u32,
-}
-
-// What an opcode's operation does: it writes, or there is none.
-pub enum Operated {
-    Wrote(Written),
-    Nothing,
 }
 
 // A value, with no flag governed.
@@ -69,32 +86,29 @@ fn plain(value: u32) -> Written
     }
 }
 
-// What the operation of an opcode writes, from its operands m and l, the old Rn and the flags. 52 and 53 turn their operands.
-pub fn operate(opcode: u8, m: u32, l: u32, n: u32, flags: u32) -> Operated
-    ensures { λ r. ⌜ r ≡ operatedBy (askedOf opcode) m l n flags ⌝ }
+// What an operation writes, from its operands m and l, the old Rn and the flags.
+pub fn operate(op: Op, m: u32, l: u32, n: u32, flags: u32) -> Written
+    ensures { λ r. ⌜ r ≡ writtenOf op m l n flags ⌝ }
 {
-    match opcode {
-        16 | 35 => Operated::Wrote(sum(m, l, 0)),
-        17 | 36 => Operated::Wrote(sum(m, l, flags % 2)),
-        18 | 37 => Operated::Wrote(difference(m, l, 0)),
-        19 | 38 => Operated::Wrote(difference(m, l, flags / 2 % 2)),
-        20 | 39 => Operated::Wrote(product(m, l)),
-        21 | 40 => Operated::Wrote(unsigned_quotient(m, l, n)),
-        22 | 41 => Operated::Wrote(signed_quotient(m, l, n)),
-        23 | 42 => Operated::Wrote(remainder(m, l, n)),
-        24 | 43 => Operated::Wrote(plain(m & l)),
-        25 | 44 => Operated::Wrote(plain(m | l)),
-        26 | 45 => Operated::Wrote(plain(m ^ l)),
-        27 => Operated::Wrote(plain(!(m & l))),
-        28 => Operated::Wrote(plain(either_zero(m, l))),
-        29 | 46 => Operated::Wrote(left(m, l)),
-        30 | 47 => Operated::Wrote(right(m, l)),
-        31 | 48 => Operated::Wrote(signed_right(m, l)),
-        32 | 49 => Operated::Wrote(plain(greater(m, l))),
-        33 | 50 => Operated::Wrote(plain(signed_greater(m, l))),
-        34 | 51 => Operated::Wrote(plain(equal(m, l))),
-        52 => Operated::Wrote(plain(greater(l, m))),
-        53 => Operated::Wrote(plain(signed_greater(l, m))),
-        _ => Operated::Nothing,
+    match op {
+        Op::Add => sum(m, l, 0),
+        Op::Adc => sum(m, l, flags % 2),
+        Op::Sub => difference(m, l, 0),
+        Op::Sbb => difference(m, l, flags / 2 % 2),
+        Op::Mul => product(m, l),
+        Op::Udiv => unsigned_quotient(m, l, n),
+        Op::Sdiv => signed_quotient(m, l, n),
+        Op::Mod => remainder(m, l, n),
+        Op::And => plain(m & l),
+        Op::Or => plain(m | l),
+        Op::Xor => plain(m ^ l),
+        Op::Nand => plain(!(m & l)),
+        Op::Lnand => plain(either_zero(m, l)),
+        Op::Lsh => left(m, l),
+        Op::Ursh => right(m, l),
+        Op::Srsh => signed_right(m, l),
+        Op::Ugt => plain(greater(m, l)),
+        Op::Sgt => plain(signed_greater(m, l)),
+        Op::Eq => plain(equal(m, l)),
     }
 }

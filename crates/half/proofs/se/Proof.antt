@@ -11,9 +11,9 @@ use Rattle.half.proofs.se.Statement.{statement}
 use Rattle.half.proofs.se.Tie as tie
 
 -- the number that 0x8000 added to wraps back to x with its highest bit turned
-extended : (x r : ℕ) → x < 65536 → r < 2 ^ 32 → (r + 32768) % 2 ^ 32 ≡ (x + 32768) % 65536 → r ≡ seOf x
+sign-copied : (x r : ℕ) → x < 65536 → r < 2 ^ 32 → (r + 32768) % 2 ^ 32 ≡ (x + 32768) % 65536 → r ≡ seOf x
 unfolding seOf
-extended x r h f e = tested (ltb x 32768) refl
+sign-copied x r h f e = tested (ltb x 32768) refl
   where
     tested : (b : Bool) → ltb x 32768 ≡ b → r ≡ seOf x
     tested true q = let k = ltb-true x 32768 q in rw q (omega (arith, e))
@@ -26,7 +26,7 @@ wrapping-sub-u32-requires : tie.Need-wrapping-sub-u32-requires
 wrapping-sub-u32-requires c κs = search needs
 
 returns : tie.Need-returns
-returns c = extended (c .before .args .x) _ (search needs) (search needs) (c .wrapping-sub-u32 .ensures)
+returns c = sign-copied (c .before .args .x) _ (search needs) (search needs) (c .wrapping-sub-u32 .ensures)
 
 pub se-spec : {M : Type 1} → statement M
 se-spec = tie.close (tie.spec add-wrapping-sub-u32 wrapping-sub-u32-requires returns)

@@ -1,47 +1,84 @@
--- `word::operate` meets its contract: at each arm the opcode is known, and what was called has the definition's own words.
-use mathlib.Core.Logic.{inl, inr}
+-- `word::operate` meets its contract: at each arm the operation is known, and what was called has the definition's own words.
 use native.Mathlib.Nat.{add-zero}
-use Rattle.word.specs.Word.{writtenOf, operatedBy}
-use Rattle.word.proofs.Asking.{asks-add, asks-adc, asks-sub, asks-sbb, asks-mul, asks-udiv, asks-sdiv, asks-mod, asks-and, asks-or, asks-xor, asks-nand, asks-lnand, asks-lsh, asks-ursh, asks-srsh, asks-ugt, asks-sgt, asks-eq, asks-ulti, asks-slti, past, asks-nothing}
+use Rattle.word.specs.Word.{writtenOf}
 use borrow.Author.Needs.{needs}
 use Rattle.word.proofs.operate.Statement.{statement}
 use Rattle.word.proofs.operate.Tie as tie
 
+enum-told : tie.Need-enum-told
+enum-told c = search needs
+
 sum-requires : tie.Need-sum-requires
 sum-requires c κs = search needs
+
+enum-told-2 : tie.Need-enum-told-2
+enum-told-2 c = search needs
 
 sum-requires-2 : tie.Need-sum-requires-2
 sum-requires-2 c κs = search needs
 
+enum-told-3 : tie.Need-enum-told-3
+enum-told-3 c = search needs
+
 difference-requires : tie.Need-difference-requires
 difference-requires c κs = search needs
+
+enum-told-4 : tie.Need-enum-told-4
+enum-told-4 c = search needs
 
 difference-requires-2 : tie.Need-difference-requires-2
 difference-requires-2 c κs = search needs
 
+enum-told-5 : tie.Need-enum-told-5
+enum-told-5 c = search needs
+
 product-requires : tie.Need-product-requires
 product-requires c κs = search needs
+
+enum-told-6 : tie.Need-enum-told-6
+enum-told-6 c = search needs
 
 unsigned-quotient-requires : tie.Need-unsigned-quotient-requires
 unsigned-quotient-requires c κs = search needs
 
+enum-told-7 : tie.Need-enum-told-7
+enum-told-7 c = search needs
+
 signed-quotient-requires : tie.Need-signed-quotient-requires
 signed-quotient-requires c κs = search needs
+
+enum-told-8 : tie.Need-enum-told-8
+enum-told-8 c = search needs
 
 remainder-requires : tie.Need-remainder-requires
 remainder-requires c κs = search needs
 
+enum-told-9 : tie.Need-enum-told-9
+enum-told-9 c = search needs
+
 plain-requires : tie.Need-plain-requires
 plain-requires c κs = search needs
+
+enum-told-10 : tie.Need-enum-told-10
+enum-told-10 c = search needs
 
 plain-requires-2 : tie.Need-plain-requires-2
 plain-requires-2 c κs = search needs
 
+enum-told-11 : tie.Need-enum-told-11
+enum-told-11 c = search needs
+
 plain-requires-3 : tie.Need-plain-requires-3
 plain-requires-3 c κs = search needs
 
+enum-told-12 : tie.Need-enum-told-12
+enum-told-12 c = search needs
+
 plain-requires-4 : tie.Need-plain-requires-4
 plain-requires-4 c κs = search needs
+
+enum-told-13 : tie.Need-enum-told-13
+enum-told-13 c = search needs
 
 either-zero-requires : tie.Need-either-zero-requires
 either-zero-requires c κs = search needs
@@ -49,14 +86,26 @@ either-zero-requires c κs = search needs
 plain-requires-5 : tie.Need-plain-requires-5
 plain-requires-5 c κs = search needs
 
+enum-told-14 : tie.Need-enum-told-14
+enum-told-14 c = search needs
+
 left-requires : tie.Need-left-requires
 left-requires c κs = search needs
+
+enum-told-15 : tie.Need-enum-told-15
+enum-told-15 c = search needs
 
 right-requires : tie.Need-right-requires
 right-requires c κs = search needs
 
+enum-told-16 : tie.Need-enum-told-16
+enum-told-16 c = search needs
+
 signed-right-requires : tie.Need-signed-right-requires
 signed-right-requires c κs = search needs
+
+enum-told-17 : tie.Need-enum-told-17
+enum-told-17 c = search needs
 
 greater-requires : tie.Need-greater-requires
 greater-requires c κs = search needs
@@ -64,11 +113,17 @@ greater-requires c κs = search needs
 plain-requires-6 : tie.Need-plain-requires-6
 plain-requires-6 c κs = search needs
 
+enum-told-18 : tie.Need-enum-told-18
+enum-told-18 c = search needs
+
 signed-greater-requires : tie.Need-signed-greater-requires
 signed-greater-requires c κs = search needs
 
 plain-requires-7 : tie.Need-plain-requires-7
 plain-requires-7 c κs = search needs
+
+enum-told-19 : tie.Need-enum-told-19
+enum-told-19 c = search needs
 
 equal-requires : tie.Need-equal-requires
 equal-requires c κs = search needs
@@ -76,138 +131,128 @@ equal-requires c κs = search needs
 plain-requires-8 : tie.Need-plain-requires-8
 plain-requires-8 c κs = search needs
 
-greater-requires-2 : tie.Need-greater-requires-2
-greater-requires-2 c κs = search needs
-
-plain-requires-9 : tie.Need-plain-requires-9
-plain-requires-9 c κs = search needs
-
-signed-greater-requires-2 : tie.Need-signed-greater-requires-2
-signed-greater-requires-2 c κs = search needs
-
-plain-requires-10 : tie.Need-plain-requires-10
-plain-requires-10 c κs = search needs
-
 returns : tie.Need-returns
-unfolding operatedBy writtenOf
-returns c = rw (c .sum .ensures, asks-add (c .before .match .keys1), add-zero)
+unfolding writtenOf
+returns c = rw (c .sum .ensures, c .before .enum-told .given .1, add-zero)
 
 returns-2 : tie.Need-returns-2
-unfolding operatedBy writtenOf
-returns-2 c = rw (c .sum2 .ensures, asks-adc (c .before .match .keys2))
+unfolding writtenOf
+returns-2 c = rw (c .sum2 .ensures, c .before .enum-told2 .given .1)
 
 returns-3 : tie.Need-returns-3
-unfolding operatedBy writtenOf
-returns-3 c = rw (c .difference .ensures, asks-sub (c .before .match .keys3), add-zero)
+unfolding writtenOf
+returns-3 c = rw (c .difference .ensures, c .before .enum-told3 .given .1, add-zero)
 
 returns-4 : tie.Need-returns-4
-unfolding operatedBy writtenOf
-returns-4 c = rw (c .difference2 .ensures, asks-sbb (c .before .match .keys4))
+unfolding writtenOf
+returns-4 c = rw (c .difference2 .ensures, c .before .enum-told4 .given .1)
 
 returns-5 : tie.Need-returns-5
-unfolding operatedBy writtenOf
-returns-5 c = rw (c .product .ensures, asks-mul (c .before .match .keys5))
+unfolding writtenOf
+returns-5 c = rw (c .product .ensures, c .before .enum-told5 .given .1)
 
 returns-6 : tie.Need-returns-6
-unfolding operatedBy writtenOf
-returns-6 c = rw (c .unsigned-quotient .ensures, asks-udiv (c .before .match .keys6))
+unfolding writtenOf
+returns-6 c = rw (c .unsigned-quotient .ensures, c .before .enum-told6 .given .1)
 
 returns-7 : tie.Need-returns-7
-unfolding operatedBy writtenOf
-returns-7 c = rw (c .signed-quotient .ensures, asks-sdiv (c .before .match .keys7))
+unfolding writtenOf
+returns-7 c = rw (c .signed-quotient .ensures, c .before .enum-told7 .given .1)
 
 returns-8 : tie.Need-returns-8
-unfolding operatedBy writtenOf
-returns-8 c = rw (c .remainder .ensures, asks-mod (c .before .match .keys8))
+unfolding writtenOf
+returns-8 c = rw (c .remainder .ensures, c .before .enum-told8 .given .1)
 
 returns-9 : tie.Need-returns-9
-unfolding operatedBy writtenOf
-returns-9 c = rw (c .plain .ensures, asks-and (c .before .match .keys9))
+unfolding writtenOf
+returns-9 c = rw (c .plain .ensures, c .before .enum-told9 .given .1)
 
 returns-10 : tie.Need-returns-10
-unfolding operatedBy writtenOf
-returns-10 c = rw (c .plain2 .ensures, asks-or (c .before .match .keys10))
+unfolding writtenOf
+returns-10 c = rw (c .plain2 .ensures, c .before .enum-told10 .given .1)
 
 returns-11 : tie.Need-returns-11
-unfolding operatedBy writtenOf
-returns-11 c = rw (c .plain3 .ensures, asks-xor (c .before .match .keys11))
+unfolding writtenOf
+returns-11 c = rw (c .plain3 .ensures, c .before .enum-told11 .given .1)
 
 returns-12 : tie.Need-returns-12
-unfolding operatedBy writtenOf
-returns-12 c = rw (c .plain4 .ensures, asks-nand (c .before .match .keys12))
+unfolding writtenOf
+returns-12 c = rw (c .plain4 .ensures, c .before .enum-told12 .given .1)
 
 returns-13 : tie.Need-returns-13
-unfolding operatedBy writtenOf
-returns-13 c = rw (c .plain5 .ensures, c .before .either-zero .ensures, asks-lnand (c .before .before .match .keys13))
+unfolding writtenOf
+returns-13 c = rw (c .plain5 .ensures, c .before .either-zero .ensures, c .before .before .enum-told13 .given .1)
 
 returns-14 : tie.Need-returns-14
-unfolding operatedBy writtenOf
-returns-14 c = rw (c .left .ensures, asks-lsh (c .before .match .keys14))
+unfolding writtenOf
+returns-14 c = rw (c .left .ensures, c .before .enum-told14 .given .1)
 
 returns-15 : tie.Need-returns-15
-unfolding operatedBy writtenOf
-returns-15 c = rw (c .right .ensures, asks-ursh (c .before .match .keys15))
+unfolding writtenOf
+returns-15 c = rw (c .right .ensures, c .before .enum-told15 .given .1)
 
 returns-16 : tie.Need-returns-16
-unfolding operatedBy writtenOf
-returns-16 c = rw (c .signed-right .ensures, asks-srsh (c .before .match .keys16))
+unfolding writtenOf
+returns-16 c = rw (c .signed-right .ensures, c .before .enum-told16 .given .1)
 
 returns-17 : tie.Need-returns-17
-unfolding operatedBy writtenOf
-returns-17 c = rw (c .plain6 .ensures, c .before .greater .ensures, asks-ugt (c .before .before .match .keys17))
+unfolding writtenOf
+returns-17 c = rw (c .plain6 .ensures, c .before .greater .ensures, c .before .before .enum-told17 .given .1)
 
 returns-18 : tie.Need-returns-18
-unfolding operatedBy writtenOf
-returns-18 c = rw (c .plain7 .ensures, c .before .signed-greater .ensures, asks-sgt (c .before .before .match .keys18))
+unfolding writtenOf
+returns-18 c = rw (c .plain7 .ensures, c .before .signed-greater .ensures, c .before .before .enum-told18 .given .1)
 
 returns-19 : tie.Need-returns-19
-unfolding operatedBy writtenOf
-returns-19 c = rw (c .plain8 .ensures, c .before .equal .ensures, asks-eq (c .before .before .match .keys19))
-
-returns-20 : tie.Need-returns-20
-unfolding operatedBy writtenOf
-returns-20 c = rw (c .plain9 .ensures, c .before .greater2 .ensures, asks-ulti (c .before .before .match .keys20))
-
-returns-21 : tie.Need-returns-21
-unfolding operatedBy writtenOf
-returns-21 c = rw (c .plain10 .ensures, c .before .signed-greater2 .ensures, asks-slti (c .before .before .match .keys21))
-
-returns-22 : tie.Need-returns-22
-unfolding operatedBy
-returns-22 c = let r = c .match .rest in
-    rw (asks-nothing (λ h. past (past (past (past (past (past (past (past (past (past (past (past (past (past (past (past (past (past (past (past (past (past (past (past (past (past (past (past (past (past (past (past (past (past (past (past (past (past h (λ e. r .0 .0 .0 .0 .0 .0 .0 .0 .0 .0 .0 .0 .0 .0 .0 .0 .0 .0 .0 .0 .1 (inl e))) (λ e. r .0 .0 .0 .0 .0 .0 .0 .0 .0 .0 .0 .0 .0 .0 .0 .0 .0 .0 .0 .1 (inl e))) (λ e. r .0 .0 .0 .0 .0 .0 .0 .0 .0 .0 .0 .0 .0 .0 .0 .0 .0 .0 .1 (inl e))) (λ e. r .0 .0 .0 .0 .0 .0 .0 .0 .0 .0 .0 .0 .0 .0 .0 .0 .0 .1 (inl e))) (λ e. r .0 .0 .0 .0 .0 .0 .0 .0 .0 .0 .0 .0 .0 .0 .0 .0 .1 (inl e))) (λ e. r .0 .0 .0 .0 .0 .0 .0 .0 .0 .0 .0 .0 .0 .0 .0 .1 (inl e))) (λ e. r .0 .0 .0 .0 .0 .0 .0 .0 .0 .0 .0 .0 .0 .0 .1 (inl e))) (λ e. r .0 .0 .0 .0 .0 .0 .0 .0 .0 .0 .0 .0 .0 .1 (inl e))) (λ e. r .0 .0 .0 .0 .0 .0 .0 .0 .0 .0 .0 .0 .1 (inl e))) (λ e. r .0 .0 .0 .0 .0 .0 .0 .0 .0 .0 .0 .1 (inl e))) (λ e. r .0 .0 .0 .0 .0 .0 .0 .0 .0 .0 .1 (inl e))) (r .0 .0 .0 .0 .0 .0 .0 .0 .0 .1)) (r .0 .0 .0 .0 .0 .0 .0 .0 .1)) (λ e. r .0 .0 .0 .0 .0 .0 .0 .1 (inl e))) (λ e. r .0 .0 .0 .0 .0 .0 .1 (inl e))) (λ e. r .0 .0 .0 .0 .0 .1 (inl e))) (λ e. r .0 .0 .0 .0 .1 (inl e))) (λ e. r .0 .0 .0 .1 (inl e))) (λ e. r .0 .0 .1 (inl e))) (λ e. r .0 .0 .0 .0 .0 .0 .0 .0 .0 .0 .0 .0 .0 .0 .0 .0 .0 .0 .0 .0 .1 (inr e))) (λ e. r .0 .0 .0 .0 .0 .0 .0 .0 .0 .0 .0 .0 .0 .0 .0 .0 .0 .0 .0 .1 (inr e))) (λ e. r .0 .0 .0 .0 .0 .0 .0 .0 .0 .0 .0 .0 .0 .0 .0 .0 .0 .0 .1 (inr e))) (λ e. r .0 .0 .0 .0 .0 .0 .0 .0 .0 .0 .0 .0 .0 .0 .0 .0 .0 .1 (inr e))) (λ e. r .0 .0 .0 .0 .0 .0 .0 .0 .0 .0 .0 .0 .0 .0 .0 .0 .1 (inr e))) (λ e. r .0 .0 .0 .0 .0 .0 .0 .0 .0 .0 .0 .0 .0 .0 .0 .1 (inr e))) (λ e. r .0 .0 .0 .0 .0 .0 .0 .0 .0 .0 .0 .0 .0 .0 .1 (inr e))) (λ e. r .0 .0 .0 .0 .0 .0 .0 .0 .0 .0 .0 .0 .0 .1 (inr e))) (λ e. r .0 .0 .0 .0 .0 .0 .0 .0 .0 .0 .0 .0 .1 (inr e))) (λ e. r .0 .0 .0 .0 .0 .0 .0 .0 .0 .0 .0 .1 (inr e))) (λ e. r .0 .0 .0 .0 .0 .0 .0 .0 .0 .0 .1 (inr e))) (λ e. r .0 .0 .0 .0 .0 .0 .0 .1 (inr e))) (λ e. r .0 .0 .0 .0 .0 .0 .1 (inr e))) (λ e. r .0 .0 .0 .0 .0 .1 (inr e))) (λ e. r .0 .0 .0 .0 .1 (inr e))) (λ e. r .0 .0 .0 .1 (inr e))) (λ e. r .0 .0 .1 (inr e))) (r .0 .1)) (r .1)))
+unfolding writtenOf
+returns-19 c = rw (c .plain8 .ensures, c .before .equal .ensures, c .before .before .enum-told19 .given .1)
 
 pub operate-spec : {M : Type 1} → statement M
 operate-spec =
     tie.close
     (tie.spec
+    enum-told
     sum-requires
+    enum-told-2
     sum-requires-2
+    enum-told-3
     difference-requires
+    enum-told-4
     difference-requires-2
+    enum-told-5
     product-requires
+    enum-told-6
     unsigned-quotient-requires
+    enum-told-7
     signed-quotient-requires
+    enum-told-8
     remainder-requires
+    enum-told-9
     plain-requires
+    enum-told-10
     plain-requires-2
+    enum-told-11
     plain-requires-3
+    enum-told-12
     plain-requires-4
+    enum-told-13
     either-zero-requires
     plain-requires-5
+    enum-told-14
     left-requires
+    enum-told-15
     right-requires
+    enum-told-16
     signed-right-requires
+    enum-told-17
     greater-requires
     plain-requires-6
+    enum-told-18
     signed-greater-requires
     plain-requires-7
+    enum-told-19
     equal-requires
     plain-requires-8
-    greater-requires-2
-    plain-requires-9
-    signed-greater-requires-2
-    plain-requires-10
     returns
     returns-2
     returns-3
@@ -226,7 +271,4 @@ operate-spec =
     returns-16
     returns-17
     returns-18
-    returns-19
-    returns-20
-    returns-21
-    returns-22)
+    returns-19)

@@ -1,0 +1,96 @@
+// The call back: a machine by value, over cells and a journal that the host lends. PC and settings come once, from the last entry taken back.
+ghost use mathlib.Core.Path.{_≡_};
+ghost use mathlib.Core.Bool.{cond};
+ghost use mathlib.Core.List.{List};
+ghost use Prim.Native.Nat.{ℕ, _-_, _≤_};
+ghost use lib.Dec.{ltb};
+ghost use Rattle.machine.specs.State.{stateOf, capacityOf};
+ghost use Rattle.machine.specs.Stops.{saidOf, plainly};
+ghost use Rattle.journal.specs.Words.{startOf};
+ghost use Rattle.call.specs.Calls.{stopAt, backFrom, backOf};
+ghost use Rattle.call.specs.Answers.{outOf};
+ghost use Rattle.backward.specs.Reached.{reached};
+use call::Checked;
+use call::Ran;
+use call::check;
+use call::lesser;
+use journal::Entry;
+use journal::entry_in;
+use journal::take_back;
+use machine::Machine;
+use machine::Stop;
+use machine::capacity;
+use packed::unpack;
+
+// How going back stopped, where no entry is damaged.
+fn stop_of(depth: u32, number: u64) -> Stop
+    ensures { λ r. ⌜ saidOf r ≡ plainly (cond (ltb depth number) 8 0) ⌝ }
+{
+    if (depth as u64) < number {
+        return Stop::Start;
+    }
+    Stop::Done
+}
+
+// What going back leaves that took so many steps back: the last of them has its entry at `at`.
+fn finish(regs: &[u32; 256], m: Machine, journal: &[u32], at: usize, undone: u32, stop: Stop) -> Ran
+    requires { ⌜ (undone ≤ m .depth) × (m .depth ≤ capacityOf (now journal)) × (at ≡ startOf (m .depth - undone)) ⌝ }
+    ensures { λ r. ⌜ ((cells : List ℕ) → outOf r cells (now (journal .entry)) ≡ stopAt (saidOf stop) undone (reached m undone (now (regs .entry)) cells (now (journal .entry)))) ⌝ }
+{
+    if undone == 0 {
+        return Ran {
+            machine: m,
+            stop,
+            count: 0,
+        };
+    }
+    let e = entry_in(&journal[at..at + Entry::WORDS]);
+    let mut before = *regs;
+    before[255] = e.pc;
+    Ran {
+        machine: Machine {
+            regs: before,
+            settings: unpack(e.settings),
+            depth: m.depth - undone,
+        },
+        stop,
+        count: undone as u64,
+    }
+}
+
+// As many steps back as the number says, or up to a stop. The journal is not written.
+fn back_on(m: Machine, cells: &mut [u32], journal: &[u32], number: u64) -> Ran
+    requires { ⌜ m .depth ≤ capacityOf (now journal) ⌝ }
+    ensures { λ r. ⌜ outOf r (now (cells .exit)) (now (journal .entry)) ≡ backFrom number 0 (stateOf m (now (cells .entry)) (now (journal .entry))) ⌝ }
+{
+    let mut regs = m.regs;
+    let depth = m.depth;
+    let total = lesser(number, depth);
+    let mut left = total;
+    let mut at = Entry::WORDS * (depth as usize);
+    while 0 < left {
+        let from = at - Entry::WORDS;
+        let entry = entry_in(&journal[from..at]);
+        if !take_back(&mut regs, cells, entry) {
+            return finish(&regs, m, journal, at, total - left, Stop::Damaged);
+        }
+        at = from;
+        left = left - 1;
+    }
+    finish(&regs, m, journal, at, total, stop_of(depth, number))
+}
+
+// Back by a number of steps: the last step taken back until the number is done or a stop is named.
+pub fn back(m: Machine, cells: &mut [u32], journal: &[u32], number: u64) -> Ran
+    ensures { λ r. ⌜ outOf r (now (cells .exit)) (now (journal .entry)) ≡ backOf number (stateOf m (now (cells .entry)) (now (journal .entry))) ⌝ }
+{
+    let checked = check(cells.len(), m.settings, capacity(journal.len()), m.depth);
+    match checked {
+        Checked::Fine => back_on(m, cells, journal, number),
+        Checked::Bad(stop) => Ran {
+            machine: m,
+            stop,
+            count: 0,
+        },
+    }
+}

@@ -1,0 +1,4 @@
+pub mod Told
+pub mod Steps
+pub mod Runs
+pub mod Loop

@@ -1,0 +1,118 @@
+-- What an instruction tells: INT alone answers, what the others raise is below the flags' bound, and a refusal is 5 or 6.
+-- Assumes nothing.
+use Prim.Native.Nat.{ℕ, _<_}
+use mathlib.Core.Path.{_≡_, refl}
+use mathlib.Core.Bool.{Bool, true, false, cond, _||_}
+use mathlib.Core.Option.{none, some}
+use mathlib.Core.Logic.{_⊎_, inl, inr}
+use native.Mathlib.Omega.{arith}
+use lib.Dec.{eqb}
+use lib.ListN.{length}
+use Rattle.word.specs.Operation.{Asked, Given, Turned, Other}
+use Rattle.word.specs.Word.{askedOf}
+use Rattle.word.proofs.Bounds.{raised-below}
+use Rattle.cell.specs.declared.Instruction.the-variants.{Registers, Immediate, Reserved}
+use Rattle.cell.specs.declared.Form.{Form}
+use Rattle.cell.specs.declared.Form.the-variants as form
+use Rattle.cell.specs.Cell.{opcodeOf, formOf, readAs, decodeOf}
+use Rattle.cell.proofs.Tests.{never}
+use Rattle.machine.specs.Addresses.{maskAddress, modeAddress}
+use Rattle.machine.specs.State.{State, flagsBound}
+use Rattle.machine.proofs.Tests.{picked}
+use Rattle.effect.specs.Action.{Value, Action, Cpswp, Ldst, Put, Operate, Split, Bz, Int, Float, Illegal, operation, floats, actionOf}
+use Rattle.effect.specs.Operands.{reg, valueOf, behind}
+use Rattle.effect.specs.Parts.{Onward, Effect, still, store, load}
+use Rattle.effect.specs.Effect.{illegalLoad, illegalStore, effectOf}
+use Rattle.effect.specs.Refusal.{refusedBy, faults}
+
+-- 122 alone is INT
+abbrev interrupts : Action → Bool
+interrupts (Cpswp n m l) = false
+interrupts (Ldst n m l) = false
+interrupts (Put n v) = false
+interrupts (Operate op n x y) = false
+interrupts (Split x n m l) = false
+interrupts (Bz n imm) = false
+interrupts (Int n imm) = true
+interrupts Float = false
+interrupts Illegal = false
+
+abbrev Quiet : Action → Type 0
+Quiet a = interrupts a ≡ false
+
+operated : (a : Asked) (n : ℕ) (x y : Value) → Quiet (operation a n x y)
+operated (Given op) n x y = refl
+operated (Turned op) n x y = refl
+operated Other n x y = refl
+
+read : (f : Form) (c : ℕ) → eqb (opcodeOf c) 122 ≡ false → Quiet (actionOf (readAs f c))
+unfolding actionOf
+read form.Registers c h =
+    let x = opcodeOf c in
+    picked Quiet (eqb x 0) _ _ (λ t. refl) (λ t.
+    picked Quiet (eqb x 1) _ _ (λ t. refl) (λ t.
+    picked Quiet (eqb x 54) _ _ (λ t. refl) (λ t.
+    picked Quiet (eqb x 107) _ _ (λ t. refl) (λ t.
+    picked Quiet (floats x) _ _ (λ t. refl) (λ t. operated (askedOf x) _ _ _)))))
+read form.Immediate c h =
+    let x = opcodeOf c in
+    picked Quiet (eqb x 3) _ _ (λ t. refl) (λ t.
+    picked Quiet (eqb x 4) _ _ (λ t. refl) (λ t.
+    picked Quiet (eqb x 5) _ _ (λ t. refl) (λ t.
+    picked Quiet (eqb x 6) _ _ (λ t. refl) (λ t.
+    picked Quiet (eqb x 7) _ _ (λ t. refl) (λ t.
+    picked Quiet (eqb x 121) _ _ (λ t. refl) (λ t.
+    rw h (picked Quiet (floats x) _ _ (λ t. refl) (λ t. operated (askedOf x) _ _ _))))))))
+read form.Reserved c h = refl
+
+-- neither an answer nor a flag past the bound
+pub record Plain (e : Effect) : Type 0 where
+  pub answer : e .answer ≡ Onward
+  pub raised : e .raised < flagsBound
+
+module _ (s : State) where
+  stays : Plain (still s)
+  stays = record { answer = refl; raised = omega arith }
+
+  stored : (p v : ℕ) → Plain (store p v (still s))
+  stored p v =
+      picked Plain (eqb p 0) _ _ (λ t. stays) (λ t.
+      picked Plain (eqb p maskAddress) _ _ (λ t. record { answer = refl; raised = omega arith }) (λ t.
+      picked Plain (eqb p modeAddress) _ _ (λ t. record { answer = refl; raised = omega arith }) (λ t. record { answer = refl; raised = omega arith })))
+
+  loaded : (p n v : ℕ) (e : Effect) → Plain e → Plain (load p n v e)
+  loaded p n v e k = picked Plain (eqb p 0) _ _ (λ t. k) (λ t. record { answer = k .answer; raised = k .raised })
+
+  plain-by : (a : Action) → Quiet a → Plain (effectOf a s)
+  unfolding effectOf
+  plain-by (Cpswp n m l) q = record { answer = refl; raised = omega arith }
+  plain-by (Ldst n m l) q =
+      picked Plain (illegalLoad (reg s l) || illegalStore (reg s m) (reg s n)) _ _ (λ t. record { answer = refl; raised = omega arith }) (λ t.
+      loaded (reg s l) n (behind (s .cells) (s .settings) (reg s l)) (store (reg s m) (reg s n) (still s)) (stored (reg s m) (reg s n)))
+  plain-by (Put n v) q = record { answer = refl; raised = omega arith }
+  plain-by (Operate op n x y) q = record { answer = refl; raised = omega (arith, raised-below op (valueOf s x) (valueOf s y) (reg s n) (s .settings .flags)) }
+  plain-by (Split x n m l) q = record { answer = refl; raised = omega arith }
+  plain-by (Bz n imm) q = picked Plain (eqb (reg s n) 0) _ _ (λ t. record { answer = refl; raised = omega arith }) (λ t. stays)
+  plain-by (Int n imm) q = never (cc)
+  plain-by Float q = stays
+  plain-by Illegal q = record { answer = refl; raised = omega arith }
+
+  pub plain : (c : ℕ) → eqb (opcodeOf c) 122 ≡ false → Plain (effectOf (actionOf (decodeOf c)) s)
+  unfolding decodeOf
+  plain c h = plain-by _ (read (formOf (opcodeOf c)) c h)
+
+  pub five-or-six : (a : Action) (k : ℕ) → refusedBy a s ≡ some k → (k ≡ 5) ⊎ (k ≡ 6)
+  unfolding refusedBy
+  five-or-six (Ldst n m l) k h = go (faults (length (s .cells)) (reg s l) || faults (length (s .cells)) (reg s m)) h
+    where
+      go : (t : Bool) → cond t (some 5) none ≡ some k → (k ≡ 5) ⊎ (k ≡ 6)
+      go true e = inl (cc)
+      go false e = never (cc)
+  five-or-six Float k h = inr (cc)
+  five-or-six (Cpswp n m l) k h = never (cc)
+  five-or-six (Put n v) k h = never (cc)
+  five-or-six (Operate op n x y) k h = never (cc)
+  five-or-six (Split x n m l) k h = never (cc)
+  five-or-six (Bz n imm) k h = never (cc)
+  five-or-six (Int n imm) k h = never (cc)
+  five-or-six Illegal k h = never (cc)

@@ -1,0 +1,14 @@
+-- `forward::after::refusal` meets its contract: the test picks the case.
+-- Assumes nothing.
+use borrow.Author.Tests.{ne-eqb}
+use Rattle.forward.proofs.after.refusal.Statement.{statement}
+use Rattle.forward.proofs.after.refusal.Tie as tie
+
+returns : tie.Need-returns
+returns c = rw (c .if1 .taken)
+
+returns-2 : tie.Need-returns-2
+returns-2 c = rw (ne-eqb _ _ (c .if1 .left))
+
+pub refusal-spec : {M : Type 1} → statement M
+refusal-spec = tie.close (tie.spec returns returns-2)

@@ -1,0 +1,72 @@
+-- What only the contracts of private functions cite: a step from what it told and left, and a run whose flag 256 is still to be set.
+use Prim.Native.Nat.{ℕ, _+_}
+use mathlib.Core.Bool.{Bool, cond, not, _&&_, _||_}
+use mathlib.Core.List.{List}
+use lib.Bits.{bitAnd}
+use lib.Dec.{leb, ltb, eqb}
+use lib.ListN.{getD}
+use Rattle.cell.specs.Cell.{nOf, immOf}
+use Rattle.machine.specs.State.{State, stateWith, firstSpecial, pcOf}
+use Rattle.machine.specs.Stops.{Said, plainly}
+use Rattle.packed.specs.Packed.{unpackedOf}
+use Rattle.journal.specs.Journal.{endedOf, settledOf}
+use Rattle.step.specs.Step.{Course, going, stopped, refused, Moved}
+use Rattle.call.specs.Calls.{Out, stopAt, goOn, runFrom}
+use Rattle.carried.specs.Left.{toldInt, toldFault}
+
+-- the state that the code holds
+abbrev pub heldOf : List ℕ → ℕ → ℕ → List ℕ → List ℕ → State
+heldOf regs s depth cells journal = stateWith regs (unpackedOf s) depth cells journal
+
+-- the mask has a flag that was told
+abbrev pub trapped : ℕ → ℕ → Bool
+trapped told s = not (eqb (bitAnd told (unpackedOf s .mask)) 0)
+
+-- a step that told this stops the run
+abbrev pub stopping : ℕ → ℕ → Bool
+stopping told s = leb toldInt told || trapped told s
+
+-- the stop of a step that is refused: 5 or 6
+abbrev pub refusalBy : ℕ → Said
+refusalBy told = plainly (cond (eqb told toldFault) 5 6)
+
+-- the stop after a step that is done and stops: 1, 3, 2
+abbrev pub stopAfter : ℕ → List ℕ → ℕ → Said
+stopAfter told regs cell =
+    cond (endedOf regs) (plainly 1)
+    (cond (eqb told toldInt) (record { number = 3; value = getD regs (nOf cell) 0; imm = immOf cell }) (plainly 2))
+
+-- what becomes of a step that is done
+abbrev pub courseBy : ℕ → List ℕ → ℕ → ℕ → Course
+courseBy told regs s cell = cond (stopping told s) (stopped (stopAfter told regs cell)) (cond (endedOf regs) (stopped (plainly 1)) going)
+
+-- a step, from what it told and left
+unfoldable pub movedBy : ℕ → List ℕ → ℕ → ℕ → ℕ → List ℕ → List ℕ → Moved
+movedBy told regs s cell depth cells journal =
+    cond (ltb told toldFault)
+    (record { state = stateWith regs (settledOf (endedOf regs) (unpackedOf s)) (depth + 1) cells journal; course = courseBy told regs s cell })
+    (record { state = heldOf regs s depth cells journal; course = refused (refusalBy told) })
+
+-- a run with k steps done, by the step after them
+abbrev pub goOnBy : (ℕ → State → Out) → ℕ → Moved → Out
+goOnBy rest k m = goOn rest (m .course) k (m .state)
+
+-- the last of the steps that are done has ended the run, and its settings
+abbrev pub endsBy : ℕ → ℕ → Bool
+endsBy done pc = ltb 0 done && leb firstSpecial pc
+
+abbrev pub finalOf : ℕ → List ℕ → ℕ → ℕ → List ℕ → List ℕ → State
+finalOf done regs s depth cells journal = stateWith regs (settledOf (endsBy done (pcOf regs)) (unpackedOf s)) depth cells journal
+
+-- k steps are done: the run has ended with the last of them, or n steps more
+unfoldable pub resumeOf : ℕ → ℕ → List ℕ → ℕ → ℕ → List ℕ → List ℕ → Out
+resumeOf n k regs s depth cells journal =
+    cond (endsBy k (pcOf regs)) (stopAt (plainly 1) k (finalOf k regs s depth cells journal)) (runFrom n k (heldOf regs s depth cells journal))
+
+-- the stop's number of a run that no step stopped
+abbrev pub numberOf : ℕ → ℕ → ℕ → ℕ → ℕ
+numberOf done budget size pc =
+    cond (endsBy done pc) 1
+    (cond (eqb done budget) 0
+    (cond (leb firstSpecial pc) 1
+    (cond (leb size pc) 4 7)))

@@ -1,0 +1,152 @@
+// What a run leaves beside cells and journal: the stops are told apart once, after the loop, and flag 256 is set there.
+ghost use mathlib.Core.Path.{_≡_};
+ghost use mathlib.Core.Bool.{true};
+ghost use mathlib.Core.List.{List};
+ghost use mathlib.Core.Logic.{_⊎_};
+ghost use Prim.Native.Nat.{ℕ, _+_, _-_, _≤_, _<_};
+ghost use lib.ListN.{length};
+ghost use Rattle.machine.specs.State.{State, capacityOf, pcOf};
+ghost use Rattle.machine.specs.Stops.{saidOf, plainly};
+ghost use Rattle.packed.specs.Packed.{unpackedOf};
+ghost use Rattle.journal.specs.Journal.{settledOf};
+ghost use Rattle.call.specs.Calls.{Out};
+ghost use Rattle.call.specs.Answers.{outOf};
+ghost use Rattle.forward.specs.Inner.{stopping, refusalBy, stopAfter, movedBy, goOnBy, resumeOf, numberOf};
+use call::Ran;
+use carried::Told;
+use cell::imm_of;
+use cell::n_of;
+use machine::Address;
+use machine::Machine;
+use machine::Settings;
+use machine::Stop;
+use packed::unpack;
+use word::Flag;
+
+// Whether a step that told something stops the run.
+pub(crate) fn stops(s: u32, told: u32) -> bool
+    ensures { λ r. ⌜ r ≡ stopping told s ⌝ }
+{
+    if Told::INT <= told {
+        return true;
+    }
+    let settings = unpack(s);
+    settings.mask & told != 0
+}
+
+// Settings, with flag 256 if it is due.
+fn settled(s: u32, due: bool) -> Settings
+    ensures { λ r. ⌜ r ≡ settledOf due (unpackedOf s) ⌝ }
+{
+    let settings = unpack(s);
+    if due {
+        return Settings {
+            flags: settings.flags | Flag::TERMINATION,
+            mask: settings.mask,
+            mode: settings.mode,
+        };
+    }
+    settings
+}
+
+// The stop of a step that was refused: 5 or 6.
+fn refusal(told: u32) -> Stop
+    ensures { λ r. ⌜ saidOf r ≡ refusalBy told ⌝ }
+{
+    if told == Told::FAULT {
+        return Stop::Fault;
+    }
+    Stop::Float
+}
+
+// The stop after a step that is done and stops: 1, 3, 2.
+fn after(regs: &[u32; 256], told: u32, cell: u32) -> Stop
+    ensures { λ r. ⌜ saidOf r ≡ stopAfter told (now (regs .entry)) cell ⌝ }
+{
+    if Address::FLAGS <= regs[255] {
+        return Stop::Ended;
+    }
+    if told == Told::INT {
+        let i = n_of(cell) as usize;
+        return Stop::Int {
+            value: regs[i],
+            imm: imm_of(cell),
+        };
+    }
+    Stop::Trap
+}
+
+// What a run leaves that a step stopped, done or refused.
+pub(crate) fn halt(regs: &[u32; 256], s: u32, depth: u32, done: u32, told: u32, cell: u32) -> Ran
+    requires { ⌜ (depth + done < 65536) × (stopping told s ≡ true) ⌝ }
+    ensures { λ r. ⌜ ((rest : ℕ → State → Out) (cells journal : List ℕ) → outOf r cells journal ≡ goOnBy rest done (movedBy told (now (regs .entry)) s cell (depth + done) cells journal)) ⌝ }
+{
+    if Told::FAULT <= told {
+        let machine = Machine {
+            regs: *regs,
+            settings: unpack(s),
+            depth: depth + done,
+        };
+        return Ran {
+            machine,
+            stop: refusal(told),
+            count: done as u64,
+        };
+    }
+    let machine = Machine {
+        regs: *regs,
+        settings: settled(s, Address::FLAGS <= regs[255]),
+        depth: depth + done + 1,
+    };
+    Ran {
+        machine,
+        stop: after(regs, told, cell),
+        count: done as u64 + 1,
+    }
+}
+
+// How a run stopped that no step stopped.
+fn stop_of(pc: u32, size: usize, done: u64, budget: u64) -> Stop
+    ensures { λ r. ⌜ saidOf r ≡ plainly (numberOf done budget size pc) ⌝ }
+{
+    if (0 < done) & (Address::FLAGS <= pc) {
+        return Stop::Ended;
+    }
+    if done == budget {
+        return Stop::Done;
+    }
+    if Address::FLAGS <= pc {
+        return Stop::Ended;
+    }
+    if size <= pc as usize {
+        return Stop::Fetch;
+    }
+    Stop::Full
+}
+
+// What a run leaves that no step stopped: PC is off the cells, the budget is done, or the journal is full.
+pub(crate) fn finish(
+    regs: &[u32; 256],
+    size: usize,
+    s: u32,
+    depth: u32,
+    done: u32,
+    budget: u64,
+) -> Ran
+    requires { ⌜ (depth + done ≤ 65536) × (done ≤ budget) ⌝ }
+    ensures { λ r. ⌜ ((cells journal : List ℕ) → size ≡ length cells
+        → (length cells ≤ pcOf (now (regs .entry))) ⊎ ((done ≡ budget) ⊎ (capacityOf journal ≤ depth + done))
+        → outOf r cells journal ≡ resumeOf (budget - done) done (now (regs .entry)) s (depth + done) cells journal) ⌝ }
+{
+    let pc = regs[255];
+    let machine = Machine {
+        regs: *regs,
+        settings: settled(s, (0 < done) & (Address::FLAGS <= pc)),
+        depth: depth + done,
+    };
+    Ran {
+        machine,
+        stop: stop_of(pc, size, done as u64, budget),
+        count: done as u64,
+    }
+}

@@ -1,0 +1,86 @@
+// The calls run and step: a machine by value, over cells and a journal that the host lends. One counter, one test of PC, and the stops told
+// apart after the loop.
+ghost use mathlib.Core.Path.{_≡_};
+ghost use Prim.Native.Nat.{_≤_};
+ghost use lib.ListN.{length};
+ghost use Rattle.machine.specs.State.{stateOf, capacityOf, mostCells, InRange};
+ghost use Rattle.call.specs.Calls.{runFrom, runOf};
+ghost use Rattle.call.specs.Answers.{outOf};
+
+mod after;
+
+use after::finish;
+use after::halt;
+use after::stops;
+use call::Checked;
+use call::Ran;
+use call::check;
+use call::lesser;
+use instruction::carry_out;
+use journal::Entry;
+use machine::Machine;
+use machine::capacity;
+use machine::index_of;
+use packed::pack;
+
+// As many steps as the budget says, or up to a stop. Flag 256 is set once, at the end.
+fn run_on(m: Machine, cells: &mut [u32], journal: &mut [u32], budget: u64, most: u32) -> Ran
+    requires { ⌜ (m .depth ≤ most) × (most ≡ capacityOf (now journal)) × InRange (m .settings) × (length (now cells) ≤ mostCells) ⌝ }
+    ensures { λ r. ⌜ outOf r (now (cells .exit)) (now (journal .exit)) ≡ runFrom budget 0 (stateOf m (now (cells .entry)) (now (journal .entry))) ⌝ }
+{
+    let mut regs = m.regs;
+    let mut s = pack(m.settings);
+    let depth = m.depth;
+    let size = cells.len();
+    let total = lesser(budget, most - depth);
+    let mut at = Entry::WORDS * (depth as usize);
+    let mut left = total;
+    let mut told = 0;
+    while 0 < left {
+        let p = index_of(regs[255]);
+        if cells.len() <= p {
+            return finish(&regs, size, s, depth, total - left, budget);
+        }
+        let cell = cells[p];
+        s = carry_out(
+            &mut journal[at..at + Entry::WORDS],
+            &mut regs,
+            cells,
+            s,
+            cell,
+            &mut told,
+        );
+        if 0 < told {
+            if stops(s, told) {
+                return halt(&regs, s, depth, total - left, told, cell);
+            }
+            told = 0;
+        }
+        at = at + Entry::WORDS;
+        left = left - 1;
+    }
+    finish(&regs, size, s, depth, total, budget)
+}
+
+// A run of a budget: the step repeated until the budget is done or a stop is named.
+pub fn run(m: Machine, cells: &mut [u32], journal: &mut [u32], budget: u64) -> Ran
+    ensures { λ r. ⌜ outOf r (now (cells .exit)) (now (journal .exit)) ≡ runOf budget (stateOf m (now (cells .entry)) (now (journal .entry))) ⌝ }
+{
+    let most = capacity(journal.len());
+    let checked = check(cells.len(), m.settings, most, m.depth);
+    match checked {
+        Checked::Fine => run_on(m, cells, journal, budget, most),
+        Checked::Bad(stop) => Ran {
+            machine: m,
+            stop,
+            count: 0,
+        },
+    }
+}
+
+// One step: a run that has no more to do.
+pub fn step(m: Machine, cells: &mut [u32], journal: &mut [u32]) -> Ran
+    ensures { λ r. ⌜ outOf r (now (cells .exit)) (now (journal .exit)) ≡ runOf 1 (stateOf m (now (cells .entry)) (now (journal .entry))) ⌝ }
+{
+    run(m, cells, journal, 1)
+}
