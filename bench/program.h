@@ -31,10 +31,15 @@ static uint32_t se(uint32_t x) { return (uint32_t)(int32_t)(int16_t)x; }
 
 static uint32_t ex(uint32_t x)
 {
-    uint32_t exponent = x >> 10 & 31;
-    if (exponent >= 16)
-        exponent += 224;
-    return x >> 15 << 31 | exponent << 23 | (x & 1023) << 13;
+    uint32_t sign = x >> 15 << 31, exponent = x >> 10 & 31, fraction = x & 1023;
+    if (exponent == 31)
+        return fraction == 0 ? sign | 0x7F800000 : 0x7FC00000;
+    if (exponent != 0)
+        return sign | (112 + exponent) << 23 | fraction << 13;
+    if (fraction == 0)
+        return sign;
+    uint32_t up = __builtin_clz(fraction) - 21;
+    return sign | (113 - up) << 23 | (fraction << up & 1023) << 13;
 }
 
 /* Once a call: 12, 10, 11; DONE if none of them. */

@@ -1,5 +1,6 @@
 //! What a single instruction does.
 
+use crate::half::ex;
 use crate::machine::*;
 
 const FLAGS_CELL: u32 = 0xFFFF_0000;
@@ -28,14 +29,6 @@ struct Touched {
     a: Option<u8>,
     b: Option<u8>,
     cell: Option<u32>,
-}
-
-/// The 16-bit float's fields, each put at its place in 32 bits; no value is special.
-pub fn ex(half: u16) -> u32 {
-    let half = half as u32;
-    let exponent = half >> 10 & 31;
-    let exponent = if exponent >= 16 { exponent | 0xE0 } else { exponent };
-    (half >> 15) << 31 | exponent << 23 | (half & 0x3FF) << 13
 }
 
 fn se(half: u16) -> u32 {
@@ -133,6 +126,8 @@ impl Runner {
         let imm = cell as u16;
         let (rn, rm, rl) = (r[n as usize], r[m as usize], r[l as usize]);
 
+        self.note_halves(opcode, imm, rn);
+
         let mut written = Written::default();
         let mut touched = Touched::default();
         let mut old_cell = 0;
@@ -207,6 +202,16 @@ impl Runner {
         self.machine.flags = self.machine.flags & !written.governed | written.raised;
         self.note(&before, &touched, old_cell);
         written.raised
+    }
+
+    fn note_halves(&mut self, opcode: u8, imm: u16, rn: u32) {
+        if opcode == 7 {
+            self.widened[0].insert(imm);
+        }
+        if opcode == 107 {
+            self.widened[1].insert(rn as u16);
+            self.widened[2].insert((rn >> 16) as u16);
+        }
     }
 
     fn note(&mut self, before: &Machine, touched: &Touched, old_cell: u32) {

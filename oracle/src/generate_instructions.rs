@@ -21,6 +21,7 @@ pub fn edges(random: &mut Random, trials: &mut Trials) {
     pc_everywhere(random, trials);
     branches(trials);
     reserved(trials);
+    every_half(trials);
 }
 
 /// Every arithmetic opcode on every pair of interesting operands. The journal keeps the flags
@@ -97,6 +98,34 @@ fn halves(random: &mut Random, trials: &mut Trials) {
         setup.calls = vec![(STEP, 0), (BACK, 2)];
         setup.add_to(trials);
     }
+}
+
+/// All 65,536 halves through LDLIF, and through FSPLIT into both its registers, in four parts each.
+/// A rule goes through a part by itself; the journal keeps what each of its rounds made.
+fn every_half(trials: &mut Trials) {
+    const PART: u32 = 16_384;
+    for part in 0..4 {
+        let first = with_immediate(7, 1, (part * PART) as u16);
+        // LDLIF R1 in cell 1; R2 is its cell, which gains 1 and is stored again; back to cell 1.
+        let rule = [first, with_immediate(35, 2, 1), with_registers(1, 2, 3, 0), with_immediate(121, 0, 0xFFFC)];
+        loops(trials, 1, &rule, vec![(2, first), (3, 1)], PART);
+
+        // FSPLIT R1 to R2 and R3; R1 gains R4, whose halves are odd, so that each meets all halves.
+        let step = 0x9E37_0001_u32;
+        let rule = [with_registers(107, 1, 2, 3), with_registers(16, 1, 1, 4), with_immediate(121, 0, 0xFFFD)];
+        loops(trials, 0, &rule, vec![(1, step.wrapping_mul(part * PART)), (4, step)], PART);
+    }
+}
+
+/// A rule that is a loop, from its cell on, run for so many rounds.
+fn loops(trials: &mut Trials, at: u32, rule: &[u32], registers: Vec<(u8, u32)>, rounds: u32) {
+    let steps = rounds * rule.len() as u32;
+    let mut setup = Setup::new(8, 8 * steps);
+    setup.registers = registers;
+    setup.pc(at);
+    setup.place(at, rule);
+    setup.calls = vec![(RUN, steps as u64)];
+    setup.add_to(trials);
 }
 
 /// LDST with every pair of pointers where something changes.

@@ -1,5 +1,7 @@
 //! The machine, its calls (step, run, back) and its journal.
 
+use std::collections::BTreeSet;
+
 pub const PC: usize = 255;
 /// From here on up there is no program: a PC here has ended.
 pub const END: u32 = 0xFFFF_0000;
@@ -67,11 +69,13 @@ pub struct Runner {
     pub journal: Vec<u32>,
     /// How often a step with this opcode was done; nothing depends on it.
     pub executed: [u64; 256],
+    /// The halves that LDLIF, and low and high that FSPLIT, made single; nothing depends on them.
+    pub widened: [BTreeSet<u16>; 3],
 }
 
 impl Runner {
     pub fn new(machine: Machine, cells: Vec<u32>, journal: Vec<u32>) -> Runner {
-        Runner { machine, cells, journal, executed: [0; 256] }
+        Runner { machine, cells, journal, executed: [0; 256], widened: Default::default() }
     }
 
     fn entries(&self) -> u32 {

@@ -9,6 +9,7 @@ mod generate_instructions;
 mod generate_jobs;
 mod generate_lines;
 mod generate_stops;
+mod half;
 mod job;
 mod line;
 mod machine;

@@ -1,6 +1,6 @@
-//! How often each opcode, stop, refusal and limit occurs in a file of trials.
+//! How often each opcode, stop, refusal and limit occurs in a file of trials, and how many halves become floats.
 
-use std::collections::BTreeMap;
+use std::collections::{BTreeMap, BTreeSet};
 
 use crate::cell::opcode_of;
 use crate::machine::{Answer, Runner, ENTRY_WORDS, MOST_ENTRIES, PC};
@@ -35,6 +35,10 @@ const LIMITS: [&str; 10] = [
     "record 65542 of 65542 refused 43 at 0",
 ];
 
+/// Where halves become single floats, in the order of `Runner::widened`.
+const WIDENED: [&str; 3] = ["LDLIF", "FSPLIT low", "FSPLIT high"];
+const HALVES: usize = 65_536;
+
 pub struct Tally {
     pub decoded: [u64; 256],
     pub encoded: [u64; 256],
@@ -43,6 +47,7 @@ pub struct Tally {
     executed: [u64; 256],
     /// Where stop 6 met the opcode.
     unsupported: [u64; 256],
+    widened: [BTreeSet<u16>; 3],
     stops: [[u64; 13]; 4],
     refusals: BTreeMap<(&'static str, u32), u64>,
     limits: BTreeMap<String, u64>,
@@ -57,6 +62,7 @@ impl Tally {
             read: [0; 256],
             executed: [0; 256],
             unsupported: [0; 256],
+            widened: Default::default(),
             stops: [[0; 13]; 4],
             refusals: BTreeMap::new(),
             limits: BTreeMap::new(),
@@ -106,6 +112,9 @@ impl Tally {
         for (sum, count) in self.executed.iter_mut().zip(&runner.executed) {
             *sum += count;
         }
+        for (all, halves) in self.widened.iter_mut().zip(&runner.widened) {
+            all.extend(halves);
+        }
     }
 
     /// The table, and what is missing from it.
@@ -113,6 +122,7 @@ impl Tally {
         let mut text = String::new();
         let mut missing = Vec::new();
         self.opcodes(&mut text, &mut missing);
+        self.halves(&mut text, &mut missing);
         self.calls(&mut text, &mut missing);
         self.refused(&mut text, &mut missing);
         self.limited(&mut text, &mut missing);
@@ -139,6 +149,16 @@ impl Tally {
                 }
             }
             text.push('\n');
+        }
+    }
+
+    fn halves(&self, text: &mut String, missing: &mut Vec<String>) {
+        *text += "halves count\n";
+        for (name, halves) in WIDENED.into_iter().zip(&self.widened) {
+            *text += &format!("{name} {}\n", halves.len());
+            if halves.len() < HALVES {
+                missing.push(format!("{} halves of {name}", HALVES - halves.len()));
+            }
         }
     }
 
@@ -178,6 +198,7 @@ impl Tally {
             }
         }
     }
+
     fn limited(&self, text: &mut String, missing: &mut Vec<String>) {
         *text += "limit count\n";
         for name in LIMITS {

@@ -1,7 +1,7 @@
 //! The small cases of the rules, and the printed job.
 
 use crate::cell::{decode, encode, with_immediate, with_registers, Decoded, Operands};
-use crate::execute::ex;
+use crate::half::ex;
 use crate::job::{load, runjob, save};
 use crate::line;
 use crate::machine::{Answer, Machine, Runner, PC};
@@ -70,8 +70,45 @@ fn case_7_split() {
 
 #[test]
 fn case_8_ex() {
-    assert_eq!(ex(0xB5B9), 0x86B7_2000);
-    assert_eq!(on_immediate(7, 0, 0xB5B9).0, 0x86B7_2000);
+    assert_eq!(ex(0xB5B9), 0xBEB7_2000);
+    assert_eq!(on_immediate(7, 0, 0xB5B9).0, 0xBEB7_2000);
+}
+
+/// Numbers that IEEE 754 has in both formats: 0, the least, where subnormals end, 1, 2, a third, the greatest, infinity.
+#[test]
+fn halves_that_are_known() {
+    let known = [
+        (0x0000, 0x0000_0000),
+        (0x0001, 0x3380_0000),
+        (0x0003, 0x3440_0000),
+        (0x03FF, 0x387F_C000),
+        (0x0400, 0x3880_0000),
+        (0x3555, 0x3EAA_A000),
+        (0x3C00, 0x3F80_0000),
+        (0x4000, 0x4000_0000),
+        (0x7BFF, 0x477F_E000),
+        (0x7C00, 0x7F80_0000),
+    ];
+    for (half, single) in known {
+        assert_eq!((ex(half), ex(half + 0x8000)), (single, single + 0x8000_0000));
+    }
+    for half in [0x7C01, 0x7DFF, 0x7E00, 0x7FFF, 0xFC01, 0xFDFF, 0xFE00, 0xFFFF] {
+        assert_eq!(ex(half), 0x7FC0_0000);
+    }
+}
+
+/// From 0 on each half is a step above the one before it, and steps double with the exponent.
+#[test]
+fn halves_step_by_step() {
+    let value = |half: u16| f64::from(f32::from_bits(ex(half)));
+    let mut step = 1.0 / 16_777_216.0;
+    for half in 0..0x7BFF {
+        if half >= 0x0800 && half % 0x0400 == 0 {
+            step *= 2.0;
+        }
+        assert_eq!(value(half + 1) - value(half), step);
+        assert_eq!(value(half + 0x8000), -value(half));
+    }
 }
 
 #[test]

@@ -1,4 +1,4 @@
--- Document 01, 'Small cases, proved together', as entries of one table.
+-- Document 01, 'Small cases, proved together', as entries of one table; 8 as document 02 has it.
 use Prim.Native.Nat.{ℕ}
 use Prim.Native.String.{String}
 use mathlib.Core.Bool.{Bool, true, false, _&&_}
@@ -52,8 +52,8 @@ cases =
     case "SRSH R3, R1, R2\n" 0x1F030102 (given 0x80000000 32 0) (leaves 0x80000000 32 0xFFFFFFFF 1 8 0) ∷
     -- 7. SPLIT 8000FFFF: FFFFFFFF and FFFF8000.
     case "SPLIT R1, R2, R3\n" 0x36010203 (given 0x8000FFFF 0 0) (leaves 0x8000FFFF 0xFFFFFFFF 0xFFFF8000 1 0 0) ∷
-    -- 8. ex(B5B9) = 86B72000 (the source's example).
-    case "LDLIF R1, #46521\n" 0x0701B5B9 (given 0 0 0) (leaves 0x86B72000 0 0 1 0 0) ∷
+    -- 8. ex(B5B9) = BEB72000 (2026-01).
+    case "LDLIF R1, #46521\n" 0x0701B5B9 (given 0 0 0) (leaves 0xBEB72000 0 0 1 0 0) ∷
     -- 9. FFFFFF00: UGTI #17 gives 1, SGTI #17 gives 0.
     case "UGTI R1, #17\n" 0x31010011 (given 0xFFFFFF00 0 0) (leaves 1 0 0 1 0 0) ∷
     case "SGTI R1, #17\n" 0x32010011 (given 0xFFFFFF00 0 0) (leaves 0 0 0 1 0 0) ∷

@@ -15,18 +15,29 @@ pub fn se(x: u16) -> u32
     std::num::wrapping_sub_u32((x as u32 + 32768) % 65536, 32768)
 }
 
-// A half float's fields in their places among 32 bits: sign, exponent and fraction.
+// The single float of a half float's value; every NaN becomes the same one.
 pub fn ex(x: u16) -> u32
     ensures { λ r. ⌜ r ≡ exOf x ⌝ }
 {
     let half = x as u32;
     let sign = half / 32768 * 2147483648;
-    let fraction = half % 1024 * 8192;
     let exponent = half / 1024 % 32;
-    if exponent < 16 {
-        sign + exponent * 8388608 + fraction
+    let fraction = half % 1024;
+    if exponent == 31 {
+        if fraction == 0 {
+            sign + 255 * 8388608
+        } else {
+            0x7FC0_0000
+        }
+    } else if exponent == 0 {
+        if fraction == 0 {
+            sign
+        } else {
+            let up = u32::leading_zeros(fraction) - 21;
+            sign + (113 - up) * 8388608 + (fraction << up) % 1024 * 8192
+        }
     } else {
-        sign + (224 + exponent) * 8388608 + fraction
+        sign + (112 + exponent) * 8388608 + fraction * 8192
     }
 }
 

@@ -1,0 +1,1 @@
+// What a float's bits stand for: definitions and their laws. Nothing runs.
