@@ -33,6 +33,7 @@ pub fn ex(x: u16) -> u32
         if fraction == 0 {
             sign
         } else {
+            // Of 32 bits, 21 stand above the place where a leading digit is not written.
             let up = u32::leading_zeros(fraction) - 21;
             sign + (113 - up) * 8388608 + (fraction << up) % 1024 * 8192
         }
