@@ -18,7 +18,7 @@ single s e t = s * 2 ^ 31 + e * 2 ^ 23 + t
 abbrev pub upOf : ℕ → ℕ
 upOf t = suc (leadingZeros 10 t)
 
--- an exponent of 0: zero, or a fraction moved up, its exponent lowered by as many
+-- an exponent of 0 counts as 1, with no leading digit: zero, or the fraction moved up and the exponent lowered by as many places
 abbrev pub leastOf : ℕ → ℕ → ℕ
 leastOf s t = cond (eqb t 0) (single s 0 0) (single s (113 - upOf t) (t * 2 ^ upOf t % 2 ^ 10 * 2 ^ 13))
 
