@@ -4,7 +4,7 @@ use mathlib.Core.Path.{_≡_, refl, sym, ap, _∙_}
 use mathlib.Core.Bool.{cond}
 use lib.Dec.{eqb}
 use Rattle.machine.specs.declared.Stop.{Stop}
-use Rattle.machine.specs.declared.Stop.the-variants.{Done, Ended, Trap, Int, Fetch, Fault, Float, Full, Start, Damaged, Unsettled, Deep, Cells}
+use Rattle.machine.specs.declared.Stop.the-variants.{Done, Ended, Trap, Int, Fetch, Fault, Float, Full, Start, Damaged, Unsettled, Deep, Cells, Barred, Overwrite, Outside}
 use Rattle.machine.specs.Stops.{Said, saidOf}
 
 -- the stop that was said
@@ -21,7 +21,10 @@ heard x =
     (cond (eqb (x .number) 8) Start
     (cond (eqb (x .number) 9) Damaged
     (cond (eqb (x .number) 10) Unsettled
-    (cond (eqb (x .number) 11) Deep Cells)))))))))))
+    (cond (eqb (x .number) 11) Deep
+    (cond (eqb (x .number) 12) Cells
+    (cond (eqb (x .number) 60) (Barred (x .place))
+    (cond (eqb (x .number) 61) Overwrite Outside))))))))))))))
 
 pub heard-said : (x : Stop) → heard (saidOf x) ≡ x
 heard-said Done = refl
@@ -37,6 +40,9 @@ heard-said Damaged = refl
 heard-said Unsettled = refl
 heard-said Deep = refl
 heard-said Cells = refl
+heard-said (Barred p) = refl
+heard-said Overwrite = refl
+heard-said Outside = refl
 
 pub said-once : (a b : Stop) → saidOf a ≡ saidOf b → a ≡ b
 said-once a b e = sym (heard-said a) ∙ ap heard e ∙ heard-said b

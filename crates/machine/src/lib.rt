@@ -57,7 +57,13 @@ impl Machine {
     }
 }
 
-// Why a call stopped, in the order of the stops' numbers, 0 to 12.
+// A run: plain, or of the profile that only goes forward, whose code is so many cells from cell 0 on.
+pub enum Kind {
+    Plain,
+    Profile(usize),
+}
+
+// Why a call stopped, in the order of the stops' numbers: 0 to 12, 60 to 62.
 pub enum Stop {
     Done,
     Ended,
@@ -72,6 +78,9 @@ pub enum Stop {
     Unsettled,
     Deep,
     Cells,
+    Barred { place: usize },
+    Overwrite,
+    Outside,
 }
 
 impl Stop {
@@ -93,6 +102,9 @@ impl Stop {
             Stop::Unsettled => 10,
             Stop::Deep => 11,
             Stop::Cells => 12,
+            Stop::Barred { place: _ } => 60,
+            Stop::Overwrite => 61,
+            Stop::Outside => 62,
         }
     }
 }
