@@ -3,7 +3,7 @@
 use Prim.Native.Nat.{ℕ, _≤_, _<_}
 use mathlib.Core.Path.{_≡_, refl, sym}
 use mathlib.Core.Bool.{true, false, _||_}
-use mathlib.Core.Option.{Option, none, some}
+use mathlib.Core.Option.{Option, none, some, orElse}
 use mathlib.Core.List.{List}
 use native.Mathlib.Omega.{arith}
 use lib.Dec.{leb, ltb, eqb}
@@ -12,9 +12,10 @@ use borrow.Author.Tests.{leb-false, ltb-false, eqb-false, lt-ltb, lt-leb, le-ltb
 use Rattle.machine.specs.declared.Settings.{Settings}
 use Rattle.machine.specs.State.{State, mostCells, capacityOf, badCells, badSettings, entriesIn, flagsBound, InRange}
 use Rattle.machine.specs.Stops.{Said, plainly}
-use Rattle.call.specs.Calls.{Out, stopAt, checkOf, checkIn, called, callOf}
+use Rattle.machine.specs.declared.Kind.{Kind}
+use Rattle.call.specs.Calls.{Out, stopAt, checkOf, saidBy, beginsOf, called}
 use Rattle.call.specs.declared.Checked.{Checked}
-use Rattle.call.specs.Answers.{saidBy, checkedOf}
+use Rattle.call.specs.Answers.{checkedOf}
 use Rattle.machine.proofs.Tests.{or-left, or-right}
 use Rattle.step.proofs.Keeps.{past}
 
@@ -22,12 +23,19 @@ none-said : (o : Option ℕ) → saidBy o ≡ none → o ≡ none
 none-said none h = refl
 none-said (some k) h = let z : _≡_ {A = ℕ} 0 1 = cc in absurd (omega arith)
 
-fine-by : (body : ℕ → ℕ → State → Out) (n : ℕ) (s : State) (o : Option ℕ) → none ≡ saidBy o → body n 0 s ≡ called o body n s
-fine-by body n s o h = rw (none-said o (sym h))
+-- what the check at its start makes of a call
+module _ (body : ℕ → ℕ → State → Out) (n : ℕ) (s : State) where
+  pub called-fine : (o : Option Said) → none ≡ o → body n 0 s ≡ called o body n s
+  called-fine o h = rw (← h)
 
-bad-by : (body : ℕ → ℕ → State → Out) (n : ℕ) (s : State) (o : Option ℕ) (x : Said) → some x ≡ saidBy o → stopAt x 0 s ≡ called o body n s
-bad-by body n s none x h = let z : _≡_ {A = ℕ} 0 1 = cc in absurd (omega arith)
-bad-by body n s (some k) x h = let e : x ≡ plainly k = cc in rw e
+  pub called-bad : (o : Option Said) (x : Said) → some x ≡ o → stopAt x 0 s ≡ called o body n s
+  called-bad o x h = rw (← h)
+
+-- nothing was named by either
+pub neither : (o p : Option Said) → none ≡ orElse o p → (none ≡ o) × (none ≡ p)
+unfolding orElse
+neither none p h = (refl, h)
+neither (some x) p h = let z : _≡_ {A = ℕ} 0 1 = cc in absurd (omega arith)
 
 -- the check, test by test
 module _ (m : ℕ) (s : Settings) (j depth : ℕ) where
@@ -46,13 +54,6 @@ module _ (m : ℕ) (s : Settings) (j depth : ℕ) where
   pub fine : badCells m ≡ false → badSettings s ≡ false → depth ≤ j → checkOf m s j depth ≡ none
   unfolding checkOf
   fine a b c = rw (a, b, le-ltb j depth c)
-
-module _ (body : ℕ → ℕ → State → Out) (n : ℕ) (s : State) where
-  pub called-fine : none ≡ saidBy (checkIn s) → body n 0 s ≡ callOf body n s
-  called-fine h = fine-by body n s (checkIn s) h
-
-  pub called-bad : (x : Said) → some x ≡ saidBy (checkIn s) → stopAt x 0 s ≡ callOf body n s
-  called-bad x h = bad-by body n s (checkIn s) x h
 
 pub record Passed (m : ℕ) (s : Settings) (j depth : ℕ) : Type 0 where
   pub some-cells : 1 ≤ m
@@ -86,6 +87,12 @@ pub as-told : (r v : Checked) (m : ℕ) (s : Settings) (j depth : ℕ) (journal 
     → checkedOf v ≡ saidBy (checkOf m s (capacityOf journal) depth)
 unfolding capacityOf
 as-told r v m s j depth journal e p h = rw (← e, ← p) h
+
+-- the same of a run
+pub run-told : (kind : Kind) (r v : Checked) (cells : List ℕ) (s : Settings) (j depth : ℕ) (journal : List ℕ) → j ≡ entriesIn (length journal) → r ≡ v
+    → checkedOf r ≡ beginsOf kind cells s j depth → checkedOf v ≡ beginsOf kind cells s (capacityOf journal) depth
+unfolding capacityOf
+run-told kind r v cells s j depth journal e p h = rw (← e, ← p) h
 
 -- a call on M cells from 1 to 16,384, settings in range and depth at most J is not refused at once
 pub passes : (m : ℕ) (s : Settings) (j depth : ℕ) → Passed m s j depth → checkOf m s j depth ≡ none

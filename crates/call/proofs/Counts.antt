@@ -10,11 +10,12 @@ use lib.Dec.{eqb}
 use lib.ListN.{length}
 use borrow.Author.Tests.{eqb-false}
 use Rattle.effect.specs.Parts.{Effect, Answer, Onward, Interrupt}
-use Rattle.machine.specs.State.{State, capacityOf}
+use Rattle.machine.specs.State.{State}
 use Rattle.journal.specs.Journal.{endedOf, regsAfter, lastOf, damagedOf, undoOf}
 use Rattle.machine.specs.Stops.{Said, plainly}
 use Rattle.step.specs.Step.{Course, going, stopped, refused, trapsOf, answered, courseOf, effectIn, moved, refusalOf, stepOf}
-use Rattle.call.specs.Calls.{Out, stopAt, goOn, runFrom, backFrom, checkOf, called, runOf, backOf}
+use Rattle.machine.specs.declared.Kind.{Kind}
+use Rattle.call.specs.Calls.{Out, stopAt, goOn, runFrom, backFrom, called, runBegins, backBegins, runOf, backOf}
 
 -- how many steps a course did
 abbrev pub done : Course → ℕ
@@ -45,18 +46,18 @@ moved-done : (s : State) (o : Option ℕ) → moved o s .state .depth ≡ s .dep
 moved-done s (some k) = omega arith
 moved-done s none = rw (course-done s)
 
-pub step-done : (s : State) → stepOf s .state .depth ≡ s .depth + done (stepOf s .course)
+pub step-done : (kind : Kind) (s : State) → stepOf kind s .state .depth ≡ s .depth + done (stepOf kind s .course)
 unfolding stepOf
-step-done s = moved-done s (refusalOf s)
+step-done kind s = moved-done s (refusalOf kind s)
 
 -- a refused step leaves registers, settings, depth, cells and journal as they were
 moved-refused : (s : State) (o : Option ℕ) (x : Said) → moved o s .course ≡ refused x → moved o s .state ≡ s
 moved-refused s (some k) x h = refl
 moved-refused s none x h = let z : _≡_ {A = ℕ} 0 1 = sym (ap done h) ∙ course-done s in absurd (omega arith)
 
-pub step-refused : (s : State) (x : Said) → stepOf s .course ≡ refused x → stepOf s .state ≡ s
+pub step-refused : (kind : Kind) (s : State) (x : Said) → stepOf kind s .course ≡ refused x → stepOf kind s .state ≡ s
 unfolding stepOf
-step-refused s x h = moved-refused s (refusalOf s) x h
+step-refused kind s x h = moved-refused s (refusalOf kind s) x h
 
 -- a run's count, from k done before
 on-count : (rest : ℕ → State → Out) (c : Course) (k d : ℕ) (s : State) → s .depth ≡ d + done c
@@ -66,10 +67,10 @@ on-count rest going k d s h f = omega (arith, f (k + 1) s)
 on-count rest (stopped x) k d s h f = omega arith
 on-count rest (refused x) k d s h f = omega arith
 
-pub run-from-count : (n k : ℕ) (s : State) → runFrom n k s .count + s .depth ≡ k + runFrom n k s .state .depth
+pub run-from-count : (kind : Kind) (n k : ℕ) (s : State) → runFrom kind n k s .count + s .depth ≡ k + runFrom kind n k s .state .depth
 unfolding runFrom
-run-from-count zero k s = refl
-run-from-count (suc n) k s = on-count (runFrom n) (stepOf s .course) k (s .depth) (stepOf s .state) (step-done s) (run-from-count n)
+run-from-count kind zero k s = refl
+run-from-count kind (suc n) k s = on-count (runFrom kind n) (stepOf kind s .course) k (s .depth) (stepOf kind s .state) (step-done kind s) (run-from-count kind n)
 
 -- the count of going back
 back-turn : (t u : Bool) (rest : ℕ → State → Out) (k : ℕ) (s : State) → (t ≡ false → 1 ≤ s .depth)
@@ -88,16 +89,16 @@ back-from-count (suc n) k s =
     (λ t. let z = eqb-false (s .depth) 0 t in omega arith) (back-from-count n)
 
 -- a run's count is the rise of depth, and the count of going back its fall
-called-count : (n : ℕ) (s : State) (o : Option ℕ) → called o runFrom n s .state .depth ≡ s .depth + called o runFrom n s .count
-called-count n s (some k) = omega arith
-called-count n s none = omega (arith, run-from-count n 0 s)
+called-count : (kind : Kind) (n : ℕ) (s : State) (o : Option Said) → called o (runFrom kind) n s .state .depth ≡ s .depth + called o (runFrom kind) n s .count
+called-count kind n s (some x) = omega arith
+called-count kind n s none = omega (arith, run-from-count kind n 0 s)
 
-pub run-count : (n : ℕ) (s : State) → runOf n s .state .depth ≡ s .depth + runOf n s .count
-run-count n s = called-count n s (checkOf (length (s .cells)) (s .settings) (capacityOf (s .journal)) (s .depth))
+pub run-count : (kind : Kind) (n : ℕ) (s : State) → runOf kind n s .state .depth ≡ s .depth + runOf kind n s .count
+run-count kind n s = called-count kind n s (runBegins kind s)
 
-called-fall : (n : ℕ) (s : State) (o : Option ℕ) → called o backFrom n s .count + called o backFrom n s .state .depth ≡ s .depth
-called-fall n s (some k) = omega arith
+called-fall : (n : ℕ) (s : State) (o : Option Said) → called o backFrom n s .count + called o backFrom n s .state .depth ≡ s .depth
+called-fall n s (some x) = omega arith
 called-fall n s none = omega (arith, back-from-count n 0 s)
 
 pub back-count : (n : ℕ) (s : State) → backOf n s .count + backOf n s .state .depth ≡ s .depth
-back-count n s = called-fall n s (checkOf (length (s .cells)) (s .settings) (capacityOf (s .journal)) (s .depth))
+back-count n s = called-fall n s (backBegins s)

@@ -3,7 +3,7 @@ use Prim.Native.Nat.{ℕ}
 use mathlib.Core.Option.{Option, none, some}
 use mathlib.Core.List.{List}
 use Rattle.machine.specs.State.{stateOf}
-use Rattle.machine.specs.Stops.{Said, plainly, saidOf}
+use Rattle.machine.specs.Stops.{Said, saidOf}
 use Rattle.call.specs.declared.Ran.{Ran}
 use Rattle.call.specs.declared.Checked.{Checked}
 use Rattle.call.specs.declared.Checked.the-variants.{Fine, Bad}
@@ -16,8 +16,3 @@ outOf r cells journal = record { state = stateOf (r .machine) cells journal; sai
 abbrev pub checkedOf : Checked → Option Said
 checkedOf Fine = none
 checkedOf (Bad x) = some (saidOf x)
-
--- a stop that is named by its number
-abbrev pub saidBy : Option ℕ → Option Said
-saidBy none = none
-saidBy (some k) = some (plainly k)

@@ -1,10 +1,15 @@
--- The calls step, run and back with their stops: document 01, 'Stops of step, run and back'.
+-- The calls step, run, profile run and back with their stops: document 01, 'Stops of step, run and back'; document 02, 2026-02.
 use Prim.Native.Nat.{ℕ, zero, suc, _+_}
 use mathlib.Core.Bool.{cond}
-use mathlib.Core.Option.{Option, none, some}
+use mathlib.Core.Option.{Option, none, some, orElse}
+use mathlib.Core.List.{List}
 use lib.Dec.{ltb, eqb}
 use lib.ListN.{length}
 use Rattle.machine.specs.declared.Settings.{Settings}
+use Rattle.machine.specs.declared.Kind.{Kind}
+use Rattle.machine.specs.declared.Kind.the-variants.{Plain, Profile}
+use Rattle.profile.specs.Profile.{ruleOf}
+use Rattle.profile.specs.Answers.{barredBy}
 use Rattle.machine.specs.State.{State, capacityOf, badCells, badSettings}
 use Rattle.journal.specs.Journal.{lastOf, damagedOf, undoOf}
 use Rattle.machine.specs.Stops.{Said, plainly}
@@ -26,9 +31,9 @@ goOn rest (stopped x) k s = stopAt x (k + 1) s
 goOn rest (refused x) k s = stopAt x k s
 
 -- A run with n steps to do and k done: the number is looked at before each step.
-unfoldable pub runFrom : ℕ → ℕ → State → Out
-runFrom zero k s = stopAt (plainly 0) k s
-runFrom (suc n) k s = goOn (runFrom n) (stepOf s .course) k (stepOf s .state)
+unfoldable pub runFrom : Kind → ℕ → ℕ → State → Out
+runFrom kind zero k s = stopAt (plainly 0) k s
+runFrom kind (suc n) k s = goOn (runFrom kind n) (stepOf kind s .course) k (stepOf kind s .state)
 
 -- The same back: the number, then depth 0, then a damaged entry.
 unfoldable pub backFrom : ℕ → ℕ → State → Out
@@ -45,20 +50,34 @@ checkOf m s j depth =
     (cond (badSettings s) (some 10)
     (cond (ltb j depth) (some 11) none))
 
--- the same, for a call on s
-abbrev pub checkIn : State → Option ℕ
-checkIn s = checkOf (length (s .cells)) (s .settings) (capacityOf (s .journal)) (s .depth)
+-- a stop that is named by its number
+abbrev pub saidBy : Option ℕ → Option Said
+saidBy none = none
+saidBy (some k) = some (plainly k)
 
-abbrev pub called : Option ℕ → (ℕ → ℕ → State → Out) → ℕ → State → Out
-called (some k) body n s = stopAt (plainly k) 0 s
+-- what keeps a rule from being run: a profile run repeats its check of the code at each call
+abbrev pub barred : Kind → List ℕ → Option Said
+barred Plain cells = none
+barred (Profile l) cells = barredBy (ruleOf l cells)
+
+-- .. and what keeps a run from beginning: the stops of every call, then the rule
+abbrev pub beginsOf : Kind → List ℕ → Settings → ℕ → ℕ → Option Said
+beginsOf kind cells s j depth = orElse (saidBy (checkOf (length cells) s j depth)) (barred kind cells)
+
+-- the same, for a run and for a going back on s
+abbrev pub runBegins : Kind → State → Option Said
+runBegins kind s = beginsOf kind (s .cells) (s .settings) (capacityOf (s .journal)) (s .depth)
+
+abbrev pub backBegins : State → Option Said
+backBegins s = saidBy (checkOf (length (s .cells)) (s .settings) (capacityOf (s .journal)) (s .depth))
+
+abbrev pub called : Option Said → (ℕ → ℕ → State → Out) → ℕ → State → Out
+called (some x) body n s = stopAt x 0 s
 called none body n s = body n 0 s
 
-abbrev pub callOf : (ℕ → ℕ → State → Out) → ℕ → State → Out
-callOf body n s = called (checkIn s) body n s
-
--- the calls, by a budget and by a number of steps
-abbrev pub runOf : ℕ → State → Out
-runOf n s = callOf runFrom n s
+-- the calls, by a budget and by a number of steps; a step is a plain run of budget 1
+abbrev pub runOf : Kind → ℕ → State → Out
+runOf kind n s = called (runBegins kind s) (runFrom kind) n s
 
 abbrev pub backOf : ℕ → State → Out
-backOf n s = callOf backFrom n s
+backOf n s = called (backBegins s) backFrom n s

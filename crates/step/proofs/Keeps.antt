@@ -1,21 +1,23 @@
 -- What a step keeps: 256 registers below 2^32, settings in range, the number of cells and of journal words, depth at most J. A step that
 -- is done has passed every test before it, writes eight words and raises depth by one; one that is refused changes nothing.
 -- Assumes nothing.
-use Prim.Native.Nat.{ℕ, _*_, _^_, _<_}
+use Prim.Native.Nat.{ℕ, _*_, _^_, _≤_, _<_}
 use mathlib.Core.Path.{_≡_, refl, _∙_}
 use mathlib.Core.Bool.{Bool, true, false, cond}
 use mathlib.Core.List.{List}
-use mathlib.Core.Option.{Option, none, some}
+use mathlib.Core.Option.{Option, none, some, orElse}
 use native.Mathlib.Omega.{arith}
 use lib.Dec.{leb}
 use lib.ListN.{length}
 use lib.Seq.{sets, length-sets}
-use borrow.Author.Tests.{leb-false}
+use borrow.Author.Tests.{leb-false, lt-leb}
 use Rattle.machine.specs.declared.Settings.{Settings}
 use Rattle.machine.specs.State.{State, capacityOf, writeIf, entriesIn, firstSpecial, pcOf, InRange}
 use Rattle.journal.specs.Words.{eightOf}
 use Rattle.journal.specs.Journal.{writesIn, settledOf, settingsAfter, cellsAfter, regsAfter, entryOf, endedOf, applyOf}
-use Rattle.step.specs.Step.{actionIn, refusalOf, effectIn, moved, stepOf}
+use Rattle.machine.specs.declared.Kind.{Kind}
+use Rattle.machine.specs.declared.Kind.the-variants.{Plain, Profile}
+use Rattle.step.specs.Step.{actionIn, codeOf, outside, guardOf, refusalOf, effectIn, moved, stepOf}
 use Rattle.effect.specs.Refusal.{refusedBy}
 use Rattle.machine.specs.Lawful.{Ready, Lawful, Words}
 use Rattle.machine.proofs.Flags.{flags-or}
@@ -34,6 +36,12 @@ pub past : (t : Bool) (k : ℕ) (o : Option ℕ) → cond t (some k) o ≡ none 
 past true k o h = absurd (not-some h)
 past false k o h = (refl, h)
 
+-- nothing was named by either
+pub neither : (o p : Option ℕ) → orElse o p ≡ none → (o ≡ none) × (p ≡ none)
+unfolding orElse
+neither none p h = (refl, h)
+neither (some k) p h = absurd (not-some h)
+
 -- what a state shows whose step is not refused
 pub record Clear (s : State) : Type 0 where
   pub on : pcOf (s .regs) < firstSpecial
@@ -41,18 +49,43 @@ pub record Clear (s : State) : Type 0 where
   pub space : s .depth < capacityOf (s .journal)
   pub allowed : refusedBy (actionIn s) s ≡ none
 
-pub clear : (s : State) → refusalOf s ≡ none → Clear s
+-- the code lies within the cells
+code-within : (kind : Kind) (s : State) → codeOf kind s ≤ length (s .cells)
+code-within Plain s = omega arith
+code-within (Profile l) s = omega arith
+
+-- what a profile run shows besides: PC is in the code, and nothing is stored there
+pub record ClearIn (kind : Kind) (s : State) : Type 0 where
+  pub clear : Clear s
+  pub inside : pcOf (s .regs) < codeOf kind s
+  pub guarded : guardOf kind (actionIn s) s ≡ none
+
+pub clear-in : (kind : Kind) (s : State) → refusalOf kind s ≡ none → ClearIn kind s
 unfolding refusalOf
-clear s h =
+clear-in kind s h =
     let a = past (leb firstSpecial (pcOf (s .regs))) 1 _ h in
-    let b = past (leb (length (s .cells)) (pcOf (s .regs))) 4 _ (a .1) in
+    let b = past (leb (codeOf kind s) (pcOf (s .regs))) (outside kind) _ (a .1) in
     let c = past (leb (capacityOf (s .journal)) (s .depth)) 7 _ (b .1) in
+    let d = neither _ _ (c .1) in
+    let inside : pcOf (s .regs) < codeOf kind s = leb-false _ _ (b .0) in
     record {
-      on = leb-false _ _ (a .0);
-      within = leb-false _ _ (b .0);
-      space = leb-false _ _ (c .0);
-      allowed = c .1;
+      clear = record {
+        on = leb-false _ _ (a .0);
+        within = omega (arith, inside, code-within kind s);
+        space = leb-false _ _ (c .0);
+        allowed = d .0;
+      };
+      inside = inside;
+      guarded = d .1;
     }
+
+pub clear : (kind : Kind) (s : State) → refusalOf kind s ≡ none → Clear s
+clear kind s h = clear-in kind s h .clear
+
+-- a step that is clear is done by a plain run: what a profile does is what a plain run does
+pub plain-too : (s : State) → Clear s → refusalOf Plain s ≡ none
+unfolding refusalOf orElse
+plain-too s c = rw (lt-leb _ _ (c .on), lt-leb _ _ (c .within), lt-leb _ _ (c .space), c .allowed)
 
 -- the effect of a step that is not refused is safe to carry out
 pub safe-in : (s : State) → Clear s → Safe (length (s .cells)) (s .settings) (effectIn s)
@@ -109,19 +142,19 @@ module _ (s : State) (l : Lawful s) where
     ready = ready-after s (l .ready) c;
   }
 
-  lawful-moved : (o : Option ℕ) → refusalOf s ≡ o → Lawful (moved o s .state)
-  lawful-moved (some k) e = l
-  lawful-moved none e = lawful-after (clear s e)
+  lawful-moved : (kind : Kind) (o : Option ℕ) → refusalOf kind s ≡ o → Lawful (moved o s .state)
+  lawful-moved kind (some k) e = l
+  lawful-moved kind none e = lawful-after (clear kind s e)
 
-  pub lawful-kept : Lawful (stepOf s .state)
+  pub lawful-kept : (kind : Kind) → Lawful (stepOf kind s .state)
   unfolding stepOf
-  lawful-kept = lawful-moved (refusalOf s) refl
+  lawful-kept kind = lawful-moved kind (refusalOf kind s) refl
 
 -- the number of cells and of journal words, whatever the state
 lengths-moved : (s : State) (o : Option ℕ) → (length (moved o s .state .cells) ≡ length (s .cells)) × (length (moved o s .state .journal) ≡ length (s .journal))
 lengths-moved s (some k) = (refl, refl)
 lengths-moved s none = (lengths (effectIn s) s .1, lengths (effectIn s) s .2)
 
-pub lengths-kept : (s : State) → (length (stepOf s .state .cells) ≡ length (s .cells)) × (length (stepOf s .state .journal) ≡ length (s .journal))
+pub lengths-kept : (kind : Kind) (s : State) → (length (stepOf kind s .state .cells) ≡ length (s .cells)) × (length (stepOf kind s .state .journal) ≡ length (s .journal))
 unfolding stepOf
-lengths-kept s = lengths-moved s (refusalOf s)
+lengths-kept kind s = lengths-moved s (refusalOf kind s)
