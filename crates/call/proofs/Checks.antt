@@ -13,8 +13,11 @@ use Rattle.machine.specs.declared.Settings.{Settings}
 use Rattle.machine.specs.State.{State, mostCells, capacityOf, badCells, badSettings, entriesIn, flagsBound, InRange}
 use Rattle.machine.specs.Stops.{Said, plainly}
 use Rattle.machine.specs.declared.Kind.{Kind}
-use Rattle.call.specs.Calls.{Out, stopAt, checkOf, saidBy, beginsOf, called}
+use Rattle.call.specs.Calls.{Out, stopAt, checkOf, saidBy, barred, beginsOf, called}
 use Rattle.call.specs.declared.Checked.{Checked}
+use Rattle.profile.specs.declared.Rule.{Rule}
+use Rattle.profile.specs.declared.Rule.the-variants.{ForwardOnly, BadLength, BadCell}
+use Rattle.profile.specs.Answers.{barredBy}
 use Rattle.call.specs.Answers.{checkedOf}
 use Rattle.machine.proofs.Tests.{or-left, or-right}
 use Rattle.step.proofs.Keeps.{past}
@@ -36,6 +39,16 @@ pub neither : (o p : Option Said) → none ≡ orElse o p → (none ≡ o) × (n
 unfolding orElse
 neither none p h = (refl, h)
 neither (some x) p h = let z : _≡_ {A = ℕ} 0 1 = cc in absurd (omega arith)
+
+-- a run begins as every call does, and then by its rule
+module _ (kind : Kind) (cells : List ℕ) (s : Settings) (j depth : ℕ) where
+  pub begins-bad : (x : Said) → some x ≡ saidBy (checkOf (length cells) s j depth) → some x ≡ beginsOf kind cells s j depth
+  unfolding orElse
+  begins-bad x h = rw (← h)
+
+  pub begins-rule : none ≡ saidBy (checkOf (length cells) s j depth) → barred kind cells ≡ beginsOf kind cells s j depth
+  unfolding orElse
+  begins-rule h = rw (← h)
 
 -- the check, test by test
 module _ (m : ℕ) (s : Settings) (j depth : ℕ) where
@@ -81,6 +94,18 @@ checked m s j depth h =
       };
       room = ltb-false j depth (c .0);
     }
+
+-- a run that begins has passed the check of every call, and its rule the profile's
+pub rule-passed : (r : Rule) → none ≡ barredBy r → r ≡ ForwardOnly
+rule-passed ForwardOnly h = refl
+rule-passed BadLength h = let z : _≡_ {A = ℕ} 0 1 = cc in absurd (omega arith)
+rule-passed (BadCell place flaw) h = let z : _≡_ {A = ℕ} 0 1 = cc in absurd (omega arith)
+
+pub run-checked : (kind : Kind) (cells : List ℕ) (s : Settings) (j depth : ℕ) → none ≡ beginsOf kind cells s j depth
+    → Passed (length cells) s j depth × (none ≡ barred kind cells)
+run-checked kind cells s j depth h =
+    let b = neither (saidBy (checkOf (length cells) s j depth)) (barred kind cells) h in
+    (checked (length cells) s j depth (b .0), b .1)
 
 -- the answer's case is known, and J with it
 pub as-told : (r v : Checked) (m : ℕ) (s : Settings) (j depth : ℕ) (journal : List ℕ) → j ≡ entriesIn (length journal) → r ≡ v → checkedOf r ≡ saidBy (checkOf m s j depth)

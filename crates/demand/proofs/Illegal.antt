@@ -10,6 +10,7 @@ use lib.Dec.{eqb}
 use Rattle.word.proofs.Bounds.{governed-below}
 use Rattle.machine.specs.declared.Settings.{Settings}
 use Rattle.machine.specs.State.{State}
+use Rattle.machine.specs.declared.Kind.{Kind}
 use Rattle.machine.proofs.Tests.{picked}
 use Rattle.effect.specs.Parts.{Effect, still, flagsOf, store, load}
 use Rattle.effect.specs.Action.{Action, Cpswp, Ldst, Put, Operate, Split, Bz, Int, Float, Illegal}
@@ -81,12 +82,12 @@ module _ (s : State) (up : illegalIn s ≡ 1) where
   after (some k) = up
   after none = settled (endedOf (regsAfter (effectIn s) (s .regs))) _ (kept (actionIn s))
 
-  pub illegal-kept : illegalIn (stepOf s .state) ≡ 1
+  pub illegal-kept : (kind : Kind) → illegalIn (stepOf kind s .state) ≡ 1
   unfolding stepOf
-  illegal-kept = after (refusalOf s)
+  illegal-kept kind = after (refusalOf kind s)
 
--- Flag 128 that is up stays up over any number of steps.
-pub illegal-stays : (n : ℕ) (s : State) → illegalIn s ≡ 1 → illegalIn (steps n s) ≡ 1
+-- Flag 128 that is up stays up over any number of steps, of either kind.
+pub illegal-stays : (kind : Kind) (n : ℕ) (s : State) → illegalIn s ≡ 1 → illegalIn (steps kind n s) ≡ 1
 unfolding steps
-illegal-stays zero s h = h
-illegal-stays (suc n) s h = illegal-kept (steps n s) (illegal-stays n s h)
+illegal-stays kind zero s h = h
+illegal-stays kind (suc n) s h = illegal-kept (steps kind n s) (illegal-stays kind n s h) kind

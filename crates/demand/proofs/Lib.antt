@@ -2,6 +2,7 @@ pub mod Small
 pub mod Stops
 pub mod Outcome
 pub mod Repeat
+pub mod Ahead
 pub mod Return
 pub mod Illegal
 pub mod Travel

@@ -47,8 +47,12 @@ use Rattle.journal.specs.Journal.{entered, firstIn, damagedOf, restored, cellsB
 use Rattle.carried.specs.Left.{Left, left, leftOf, before}
 use Rattle.call.specs.declared.Checked.{Checked}
 use Rattle.machine.specs.Stops.{saidOf}
-use Rattle.call.specs.Calls.{checkOf, runOf, backOf}
-use Rattle.call.specs.Answers.{checkedOf, saidBy, outOf}
+use Rattle.machine.specs.declared.Kind.{Kind}
+use Rattle.profile.specs.declared.Judged.{Judged}
+use Rattle.profile.specs.declared.Rule.{Rule}
+use Rattle.profile.specs.Profile.{judgedOf, ruleOf}
+use Rattle.call.specs.Calls.{checkOf, saidBy, beginsOf, runOf, backOf}
+use Rattle.call.specs.Answers.{checkedOf, outOf}
 use Rattle.call.proofs.Named as calls
 use Rattle.refusal.specs.declared.Refusal.{Refusal}
 use Rattle.job.specs.declared.Answer.{Answer}
@@ -199,18 +203,29 @@ module _ (told : ℕ) (a : Action) (regs : List ℕ) (long : length regs ≡ 256
       let w = carry-out-once [] after after' [] [] noted noted' r t said said' (p []) (q []) in
       (w .0, w .2, w .3, w .4)
 
+-- what a profile says of a cell and of a rule
+pub judge-once : (c : ℕ) (r t : Judged) → r ≡ judgedOf c → t ≡ judgedOf c → r ≡ t
+judge-once c r t = unique
+
+pub rule-once : (l : ℕ) (cells : List ℕ) (r t : Rule) → r ≡ ruleOf l cells → t ≡ ruleOf l cells → r ≡ t
+rule-once l cells r t = unique
+
 -- what a call begins with, and how many steps it can do
 pub check-once : (m : ℕ) (s : Settings) (j depth : ℕ) (r t : Checked) → checkedOf r ≡ saidBy (checkOf m s j depth) → checkedOf t ≡ saidBy (checkOf m s j depth) → r ≡ t
 check-once m s j depth r t p q = calls.checked-once r t (unique p q)
 
+pub begins-once : (kind : Kind) (cells : List ℕ) (s : Settings) (j depth : ℕ) (r t : Checked) → checkedOf r ≡ beginsOf kind cells s j depth
+    → checkedOf t ≡ beginsOf kind cells s j depth → r ≡ t
+begins-once kind cells s j depth r t p q = calls.checked-once r t (unique p q)
+
 pub lesser-once : (number most r t : ℕ) → r ≡ min number most → t ≡ min number most → r ≡ t
 lesser-once number most r t = unique
 
--- run, and step, which is a run of budget 1; back, whose journal is the one at entry
+-- run, with step, which is a plain run of budget 1, and profile run; back, whose journal is the one at entry
 module _ (m : Machine) (cells journal : List ℕ) (n : ℕ) (r t : Ran) (left left' kept kept' : List ℕ) where
-  pub run-once : outOf r left kept ≡ runOf n (stateOf m cells journal) → outOf t left' kept' ≡ runOf n (stateOf m cells journal)
+  pub run-once : (kind : Kind) → outOf r left kept ≡ runOf kind n (stateOf m cells journal) → outOf t left' kept' ≡ runOf kind n (stateOf m cells journal)
       → (r ≡ t) × (left ≡ left') × (kept ≡ kept')
-  run-once p q = calls.once _ r t left left' kept kept' p q
+  run-once kind p q = calls.once _ r t left left' kept kept' p q
 
   pub back-once : outOf r left journal ≡ backOf n (stateOf m cells journal) → outOf t left' journal ≡ backOf n (stateOf m cells journal)
       → (r ≡ t) × (left ≡ left')

@@ -9,7 +9,7 @@ use lib.Dec.{ltb}
 use borrow.Author.Tests.{ltb-true, ltb-false}
 use Rattle.machine.specs.State.{State}
 use Rattle.machine.specs.Stops.{Said}
-use Rattle.call.specs.Calls.{Out, checkIn, callOf}
+use Rattle.call.specs.Calls.{Out, called}
 use Rattle.demand.specs.Demands.{Called}
 
 -- of the numbers up to which all is so, only one is itself not so
@@ -27,15 +27,15 @@ same-out o p a b c =
     ∙ ap (λ (x : Said). record { state = p .state; said = x; count = o .count }) b
     ∙ ap (λ (x : ℕ). record { state = p .state; said = p .said; count = x }) c
 
-module _ (Done : Out → Type 0) (s : State) where
+module _ (begins : Option Said) (Done : Out → Type 0) (s : State) where
   -- a call with its check, from what it does if it is not refused at once
-  pub call-holds : (body : ℕ → ℕ → State → Out) (n : ℕ) → (checkIn s ≡ none → Done (callOf body n s)) → Called Done s (callOf body n s)
-  call-holds body n f = record { refusal = λ k h. rw h; else = f }
+  pub call-holds : (body : ℕ → ℕ → State → Out) (n : ℕ) → (begins ≡ none → Done (called begins body n s)) → Called begins Done s (called begins body n s)
+  call-holds body n f = record { refusal = λ x h. rw h; else = f }
 
   -- it has one outcome if what it does has one
-  pub call-once : ((o p : Out) → Done o → Done p → o ≡ p) → (o p : Out) → Called Done s o → Called Done s p → o ≡ p
-  call-once f o p c d = by (checkIn s) refl
+  pub call-once : ((o p : Out) → Done o → Done p → o ≡ p) → (o p : Out) → Called begins Done s o → Called begins Done s p → o ≡ p
+  call-once f o p c d = by begins refl
     where
-      by : (k : Option ℕ) → checkIn s ≡ k → o ≡ p
+      by : (k : Option Said) → begins ≡ k → o ≡ p
       by none h = f o p (c .else h) (d .else h)
-      by (some k) h = c .refusal k h ∙ sym (d .refusal k h)
+      by (some x) h = c .refusal x h ∙ sym (d .refusal x h)

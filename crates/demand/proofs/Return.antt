@@ -5,7 +5,6 @@ use Prim.Native.Nat.{ℕ, zero, suc, _+_}
 use mathlib.Core.Path.{_≡_, refl, sym, ap, _∙_}
 use mathlib.Core.Bool.{Bool, true, false, cond}
 use mathlib.Core.Option.{none}
-use mathlib.Core.List.{[], _∷_}
 use native.Mathlib.Nat.{zero-add}
 use native.Mathlib.Omega.{arith}
 use lib.Dec.{eqb}
@@ -15,10 +14,10 @@ use Rattle.machine.specs.Stops.{Said, plainly}
 use Rattle.journal.specs.Journal.{undoOf}
 use Rattle.journal.specs.Undos.{undos, damagedIn, Undoable}
 use Rattle.journal.proofs.Undoing.{undos-none, undos-first}
-use Rattle.call.specs.Calls.{Out, stopAt, backFrom, checkIn, backOf}
+use Rattle.call.specs.Calls.{Out, stopAt, backFrom, backBegins, backOf}
 use Rattle.call.proofs.Counts.{back-count}
 use Rattle.demand.specs.Demands.{listed, backStops, FallsOn, Falls, spent, start, damaged, Returned, Called}
-use Rattle.demand.proofs.Stops.{call-said}
+use Rattle.demand.proofs.Stops.{back-begins, call-said}
 use Rattle.demand.proofs.Outcome.{first, same-out, call-holds, call-once}
 
 on-from : (k : ℕ) (s : State) → Undoable s → FallsOn k (undoOf s) → FallsOn (suc k) s
@@ -66,7 +65,7 @@ back-far zero k s = none-far 0 k s (plainly 0) (spent (none-yet s))
 back-far (suc n) k s = one-far (eqb (s .depth) 0) (damagedIn s) n k s (backFrom n) refl refl (back-far n)
 
 -- Demand 2, back: going back by n that is not refused at once is the definition's step back repeated
-pub returned : (n : ℕ) (s : State) → checkIn s ≡ none → Returned n s (backOf n s)
+pub returned : (n : ℕ) (s : State) → backBegins s ≡ none → Returned n s (backOf n s)
 returned n s h =
     let w = back-far n 0 s in
     let o : backOf n s ≡ backFrom n 0 s = rw h in
@@ -85,7 +84,8 @@ falls-listed (start k h g d) = refl
 falls-listed (damaged k h g d c) = refl
 
 pub back-said : (n : ℕ) (s : State) → listed backStops (backOf n s .said .number) ≡ true
-back-said n s = call-said (0 ∷ 8 ∷ 9 ∷ []) backFrom n s (falls-listed (back-far n 0 s .ends))
+unfolding listed
+back-said n s = call-said backStops (backBegins s) backFrom n s (back-begins backStops refl refl refl s) (λ h. falls-listed (back-far n 0 s .ends))
 
 -- the end of a going back is determined by depths and entries
 not-whole : {t : Bool} → t ≡ true → t ≡ false → ⊥
@@ -114,8 +114,8 @@ returned-once n s o p a b =
     same-out o p (a .state ∙ ap (λ (k : ℕ). undos k s) (e .0) ∙ sym (b .state)) (e .1) (e .0)
 
 -- Demands 1 and 2, back: going back is what these words say, and nothing else is
-pub back-holds : (n : ℕ) (s : State) → Called (Returned n s) s (backOf n s)
-back-holds n s = call-holds (Returned n s) s backFrom n (returned n s)
+pub back-holds : (n : ℕ) (s : State) → Called (backBegins s) (Returned n s) s (backOf n s)
+back-holds n s = call-holds (backBegins s) (Returned n s) s backFrom n (returned n s)
 
-pub back-alone : (n : ℕ) (s : State) (o p : Out) → Called (Returned n s) s o → Called (Returned n s) s p → o ≡ p
-back-alone n s = call-once (Returned n s) s (returned-once n s)
+pub back-alone : (n : ℕ) (s : State) (o p : Out) → Called (backBegins s) (Returned n s) s o → Called (backBegins s) (Returned n s) s p → o ≡ p
+back-alone n s = call-once (backBegins s) (Returned n s) s (returned-once n s)

@@ -2,6 +2,7 @@
 -- Assumes nothing.
 use mathlib.Core.Path.{_≡_, refl}
 use mathlib.Core.Bool.{true}
+use mathlib.Core.Option.{orElse}
 use Rattle.half.specs.Half.{seOf, exOf}
 use Rattle.word.specs.Word.{writtenOf, opOf, askedOf}
 use Rattle.cell.specs.Cell.{legal, immediate, formOf, decodeOf}
@@ -20,5 +21,5 @@ use Rattle.call.specs.Calls.{runFrom, checkOf}
 use Rattle.demand.specs.Cases.{cases, holds, all}
 
 pub small-cases : all holds cases ≡ true
-unfolding all cases holds seOf exOf writtenOf opOf askedOf legal immediate formOf decodeOf digits decimal mnemonics wordOf lineOf actionOf operandOf behind flagsOf effectOf refusedBy capacityOf entriesIn regsAfter cellsAfter settingsAfter entryOf refusalOf effectIn courseOf stepOf runFrom checkOf
+unfolding all cases holds seOf exOf writtenOf opOf askedOf legal immediate formOf decodeOf digits decimal mnemonics wordOf lineOf actionOf operandOf behind flagsOf effectOf refusedBy capacityOf entriesIn regsAfter cellsAfter settingsAfter entryOf refusalOf effectIn courseOf stepOf runFrom checkOf orElse
 small-cases = refl

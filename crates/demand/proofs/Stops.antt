@@ -1,14 +1,18 @@
--- Which stops a step and the check of a call may name: each is on document 01's list for the call.
+-- Which stops a step and the check of a call may name: each is on the list for the call, of document 01 or of document 02, 2026-02.
 -- Assumes nothing.
-use Prim.Native.Nat.{ℕ}
+use Prim.Native.Nat.{ℕ, _<_}
 use mathlib.Core.Path.{_≡_, refl}
 use mathlib.Core.Bool.{Bool, true, false, _||_}
-use mathlib.Core.Option.{Option, none, some}
+use mathlib.Core.Option.{Option, none, some, orElse}
 use mathlib.Core.List.{List, [], _∷_, _++_}
 use native.Mathlib.Omega.{arith}
 use lib.Dec.{leb, ltb, eqb}
 use lib.ListN.{length}
+use borrow.Author.Tests.{eqb-true, leb-false}
 use Rattle.effect.specs.Parts.{Answer, Onward, Interrupt, Effect}
+use Rattle.machine.specs.declared.Kind.{Kind}
+use Rattle.machine.specs.declared.Kind.the-variants.{Plain, Profile}
+use Rattle.machine.specs.declared.Settings.{Settings}
 use Rattle.machine.specs.State.{pcOf, State, capacityOf, badCells, badSettings}
 use Rattle.effect.specs.Action.{Action, Cpswp, Ldst, Put, Operate, Split, Bz, Int, Float, Illegal}
 use Rattle.effect.specs.Operands.{reg}
@@ -16,108 +20,177 @@ use Rattle.effect.specs.Refusal.{faults, refusedBy}
 use Rattle.machine.proofs.Tests.{picked}
 use Rattle.journal.specs.Journal.{endedOf, regsAfter}
 use Rattle.machine.specs.Stops.{Said, plainly}
-use Rattle.step.specs.Step.{Course, going, stopped, refused, trapsOf, answered, courseOf, refusalOf, effectIn, actionIn, moved, stepOf}
-use Rattle.call.specs.Calls.{Out, checkOf, checkIn, called}
-use Rattle.demand.specs.Demands.{listed, runStops}
-
--- the stops that a step names, and those that the check names
-abbrev pub stepStops : List ℕ
-stepStops = 1 ∷ 2 ∷ 3 ∷ 4 ∷ 5 ∷ 6 ∷ 7 ∷ []
-
-abbrev pub checkStops : List ℕ
-checkStops = 10 ∷ 11 ∷ 12 ∷ []
+use Rattle.profile.specs.declared.Rule.{Rule}
+use Rattle.profile.specs.declared.Rule.the-variants.{ForwardOnly, BadLength, BadCell}
+use Rattle.profile.specs.Profile.{ruleOf}
+use Rattle.profile.specs.Answers.{barredBy}
+use Rattle.step.specs.Step.{Course, going, stopped, refused, codeOf, outside, storesInto, guardOf, trapsOf, answered, courseOf, refusalOf, effectIn, actionIn, moved, stepOf}
+use Rattle.step.proofs.Keeps.{clear-in}
+use Rattle.call.specs.Calls.{Out, checkOf, saidBy, barred, backBegins, runBegins, called}
+use Rattle.demand.specs.Demands.{listed}
 
 -- what was named, if anything was, is in a list
 abbrev pub Named : List ℕ → Option ℕ → Type 0
 Named l none = Prim.Unit {0}
 Named l (some k) = listed l k ≡ true
 
-abbrev pub Fine : Course → Type 0
-Fine going = Prim.Unit {0}
-Fine (stopped x) = listed stepStops (x .number) ≡ true
-Fine (refused x) = listed stepStops (x .number) ≡ true
+abbrev pub NamedBy : List ℕ → Option Said → Type 0
+NamedBy l none = Prim.Unit {0}
+NamedBy l (some x) = listed l (x .number) ≡ true
 
-by-action : (a : Action) (s : State) → Named stepStops (refusedBy a s)
-unfolding refusedBy listed
-by-action (Cpswp n m l) s = tt
-by-action (Ldst n m l) s =
-    picked (Named stepStops) (faults (length (s .cells)) (reg s l) || faults (length (s .cells)) (reg s m)) _ _ (λ t. refl) (λ t. tt)
-by-action (Put n v) s = tt
-by-action (Operate op n x y) s = tt
-by-action (Split x n m l) s = tt
-by-action (Bz n imm) s = tt
-by-action (Int n imm) s = tt
-by-action Float s = refl
-by-action Illegal s = tt
+abbrev pub Fine : List ℕ → Course → Type 0
+Fine l going = Prim.Unit {0}
+Fine l (stopped x) = listed l (x .number) ≡ true
+Fine l (refused x) = listed l (x .number) ≡ true
 
-refusal-named : (s : State) → Named stepStops (refusalOf s)
-unfolding refusalOf listed
-refusal-named s =
-    picked (Named stepStops) (endedOf (s .regs)) _ _ (λ t. refl) (λ t.
-    picked (Named stepStops) (leb (length (s .cells)) (pcOf (s .regs))) _ _ (λ t. refl) (λ t.
-    picked (Named stepStops) (leb (capacityOf (s .journal)) (s .depth)) _ _ (λ t. refl) (λ t.
-    by-action (actionIn s) s)))
+-- a list has all that a step from s may name
+pub record Has (l : List ℕ) (kind : Kind) (s : State) : Type 0 where
+  pub ended : listed l 1 ≡ true
+  pub trap : listed l 2 ≡ true
+  pub int : pcOf (s .regs) < codeOf kind s → (v i : ℕ) → effectIn s .answer ≡ Interrupt v i → listed l 3 ≡ true
+  pub off : listed l (outside kind) ≡ true
+  pub fault : listed l 5 ≡ true
+  pub float : pcOf (s .regs) < codeOf kind s → actionIn s ≡ Float → listed l 6 ≡ true
+  pub full : listed l 7 ≡ true
+  pub guard : Named l (guardOf kind (actionIn s) s)
 
-answer-fine : (a : Answer) (e : Effect) → Fine (answered a e)
-unfolding listed
-answer-fine Onward e = picked Fine (trapsOf e) _ _ (λ t. refl) (λ t. tt)
-answer-fine (Interrupt v i) e = refl
+by-action : (l : List ℕ) (s : State) → listed l 5 ≡ true → (a : Action) → (a ≡ Float → listed l 6 ≡ true) → Named l (refusedBy a s)
+unfolding refusedBy
+by-action l s h (Cpswp n m k) f = tt
+by-action l s h (Ldst n m k) f =
+    picked (Named l) (faults (length (s .cells)) (reg s k) || faults (length (s .cells)) (reg s m)) _ _ (λ t. h) (λ t. tt)
+by-action l s h (Put n v) f = tt
+by-action l s h (Operate op n x y) f = tt
+by-action l s h (Split x n m k) f = tt
+by-action l s h (Bz n imm) f = tt
+by-action l s h (Int n imm) f = tt
+by-action l s h Float f = f refl
+by-action l s h Illegal f = tt
 
-course-fine : (e : Effect) (regs : List ℕ) → Fine (courseOf e regs)
-unfolding courseOf listed
-course-fine e regs = picked Fine (endedOf (regsAfter e regs)) _ _ (λ t. refl) (λ t. answer-fine (e .answer) e)
+either-named : (l : List ℕ) (o p : Option ℕ) → Named l o → Named l p → Named l (orElse o p)
+unfolding orElse
+either-named l none p f g = g
+either-named l (some k) p f g = f
 
-moved-fine : (s : State) (o : Option ℕ) → Named stepStops o → Fine (moved o s .course)
-moved-fine s (some k) h = h
-moved-fine s none h = course-fine (effectIn s) (s .regs)
+refusal-named : (l : List ℕ) (kind : Kind) (s : State) → Has l kind s → Named l (refusalOf kind s)
+unfolding refusalOf
+refusal-named l kind s h =
+    picked (Named l) (endedOf (s .regs)) _ _ (λ t. h .ended) (λ t.
+    picked (Named l) (leb (codeOf kind s) (pcOf (s .regs))) _ _ (λ t. h .off) (λ u.
+    picked (Named l) (leb (capacityOf (s .journal)) (s .depth)) _ _ (λ t. h .full) (λ t.
+    either-named l _ _ (by-action l s (h .fault) (actionIn s) (h .float (leb-false _ _ u))) (h .guard))))
 
-pub step-fine : (s : State) → Fine (stepOf s .course)
+answer-fine : (l : List ℕ) (a : Answer) (e : Effect) → listed l 2 ≡ true → ((v i : ℕ) → a ≡ Interrupt v i → listed l 3 ≡ true) → Fine l (answered a e)
+answer-fine l Onward e h f = picked (Fine l) (trapsOf e) _ _ (λ t. h) (λ t. tt)
+answer-fine l (Interrupt v i) e h f = f v i refl
+
+moved-fine : (l : List ℕ) (kind : Kind) (s : State) (o : Option ℕ) → refusalOf kind s ≡ o → Has l kind s → Named l o → Fine l (moved o s .course)
+unfolding courseOf
+moved-fine l kind s (some k) q h n = n
+moved-fine l kind s none q h n =
+    let e = effectIn s in
+    picked (Fine l) (endedOf (regsAfter e (s .regs))) _ _ (λ t. h .ended) (λ t. answer-fine l (e .answer) e (h .trap) (h .int (clear-in kind s q .inside)))
+
+pub step-fine : (l : List ℕ) (kind : Kind) (s : State) → Has l kind s → Fine l (stepOf kind s .course)
 unfolding stepOf
-step-fine s = moved-fine s (refusalOf s) (refusal-named s)
+step-fine l kind s h = moved-fine l kind s (refusalOf kind s) refl h (refusal-named l kind s h)
 
--- a stop that a step names is one of a run's, and is not 0
-either-right : (a b : Bool) → b ≡ true → (a || b) ≡ true
-either-right true b h = refl
-either-right false b h = h
+-- the stops that a step of a run names from whatever state
+abbrev pub guardStops : Kind → List ℕ
+guardStops Plain = []
+guardStops (Profile l) = 61 ∷ []
 
-either-way : (t : Bool) {a b : Bool} → (a ≡ true → b ≡ true) → (t || a) ≡ true → (t || b) ≡ true
-either-way true f h = refl
-either-way false f h = f h
+abbrev pub stepStops : Kind → List ℕ
+stepStops kind = 1 ∷ 2 ∷ 3 ∷ 5 ∷ 6 ∷ 7 ∷ outside kind ∷ guardStops kind
 
-appended : (l r : List ℕ) (k : ℕ) → listed l k ≡ true → listed (l ++ r) k ≡ true
+off-listed : (kind : Kind) → listed (stepStops kind) (outside kind) ≡ true
 unfolding listed
-appended [] r k h = let z : _≡_ {A = ℕ} 0 1 = cc in absurd (omega arith)
-appended (y ∷ l) r k h = either-way (eqb k y) (appended l r k) h
+off-listed Plain = refl
+off-listed (Profile l) = refl
 
-pub widen : (k : ℕ) → listed stepStops k ≡ true → listed runStops k ≡ true
+guard-named : (kind : Kind) (s : State) → Named (stepStops kind) (guardOf kind (actionIn s) s)
 unfolding listed
-widen k h = either-right (eqb k 0) _ (appended stepStops checkStops k h)
+guard-named Plain s = tt
+guard-named (Profile l) s = picked (Named (stepStops (Profile l))) (storesInto l (actionIn s) s) _ _ (λ t. refl) (λ t. tt)
 
-pub not-zero : (x : Said) → listed stepStops (x .number) ≡ true → x ≡ plainly 0 → ⊥
+pub any-step : (kind : Kind) (s : State) → Has (stepStops kind) kind s
 unfolding listed
-not-zero x h e =
+any-step kind s = record {
+  ended = refl;
+  trap = refl;
+  int = λ q v i e. refl;
+  off = off-listed kind;
+  fault = refl;
+  float = λ q e. refl;
+  full = refl;
+  guard = guard-named kind s;
+}
+
+-- a list whose numbers are all on another
+either-way : (t : Bool) {a b : Bool} → (t ≡ true → b ≡ true) → (a ≡ true → b ≡ true) → (t || a) ≡ true → b ≡ true
+either-way true f g h = f refl
+either-way false f g h = g h
+
+abbrev pub Within : List ℕ → List ℕ → Type 0
+Within [] r = Prim.Unit {0}
+Within (y ∷ l) r = (listed r y ≡ true) × Within l r
+
+same-number : (x y : ℕ) (r : List ℕ) → listed r y ≡ true → eqb x y ≡ true → listed r x ≡ true
+same-number x y r h e = rw (eqb-true x y e) h
+
+pub widen : (l r : List ℕ) → Within l r → (k : ℕ) → listed l k ≡ true → listed r k ≡ true
+unfolding listed
+widen [] r w k h = let z : _≡_ {A = ℕ} 0 1 = cc in absurd (omega arith)
+widen (y ∷ l) r w k h = either-way (eqb k y) (same-number k y r (w .0)) (widen l r (w .1) k) h
+
+-- no step names 0
+pub not-zero : (kind : Kind) (x : Said) → listed (stepStops kind) (x .number) ≡ true → x ≡ plainly 0 → ⊥
+unfolding listed
+not-zero Plain x h e =
+    let z : false ≡ true = rw e at h in
+    let y : _≡_ {A = ℕ} 0 1 = cc in
+    omega arith
+not-zero (Profile l) x h e =
     let z : false ≡ true = rw e at h in
     let y : _≡_ {A = ℕ} 0 1 = cc in
     omega arith
 
-check-named : (s : State) → Named checkStops (checkIn s)
-unfolding checkOf listed
-check-named s =
-    picked (Named checkStops) (badCells (length (s .cells))) _ _ (λ t. refl) (λ t.
-    picked (Named checkStops) (badSettings (s .settings)) _ _ (λ t. refl) (λ t.
-    picked (Named checkStops) (ltb (capacityOf (s .journal)) (s .depth)) _ _ (λ t. refl) (λ t. tt)))
+-- what keeps a call from beginning
+by-number : (l : List ℕ) (o : Option ℕ) → Named l o → NamedBy l (saidBy o)
+by-number l none h = tt
+by-number l (some k) h = h
 
-behind : (p l : List ℕ) (k : ℕ) → listed l k ≡ true → listed (p ++ l) k ≡ true
-unfolding listed
-behind [] l k h = h
-behind (y ∷ p) l k h = either-right (eqb k y) _ (behind p l k h)
+check-named : (l : List ℕ) (m : ℕ) (t : Settings) (j depth : ℕ) → listed l 12 ≡ true → listed l 10 ≡ true → listed l 11 ≡ true → NamedBy l (saidBy (checkOf m t j depth))
+unfolding checkOf
+check-named l m t j depth a b c =
+    by-number l (checkOf m t j depth)
+    (picked (Named l) (badCells m) _ _ (λ z. a) (λ z.
+    picked (Named l) (badSettings t) _ _ (λ z. b) (λ z.
+    picked (Named l) (ltb j depth) _ _ (λ z. c) (λ z. tt))))
 
-called-said : (p l : List ℕ) (body : ℕ → ℕ → State → Out) (n : ℕ) (s : State) (o : Option ℕ) → Named l o
-    → listed (p ++ l) (body n 0 s .said .number) ≡ true → listed (p ++ l) (called o body n s .said .number) ≡ true
-called-said p l body n s (some k) h f = behind p l k h
-called-said p l body n s none h f = f
+rule-named : (l : List ℕ) → listed l 60 ≡ true → (r : Rule) → NamedBy l (barredBy r)
+rule-named l h ForwardOnly = tt
+rule-named l h BadLength = h
+rule-named l h (BadCell place flaw) = h
 
--- what a call says is on a list that the check's stops end, if what its body says is
-pub call-said : (p : List ℕ) (body : ℕ → ℕ → State → Out) (n : ℕ) (s : State) → listed (p ++ checkStops) (body n 0 s .said .number) ≡ true
-    → listed (p ++ checkStops) (called (checkIn s) body n s .said .number) ≡ true
-call-said p body n s f = called-said p checkStops body n s (checkIn s) (check-named s) f
+barred-named : (r : List ℕ) (kind : Kind) (cells : List ℕ) → ((l : ℕ) → kind ≡ Profile l → listed r 60 ≡ true) → NamedBy r (barred kind cells)
+barred-named r Plain cells f = tt
+barred-named r (Profile l) cells f = rule-named r (f l refl) (ruleOf l cells)
+
+either-said : (l : List ℕ) (o p : Option Said) → NamedBy l o → NamedBy l p → NamedBy l (orElse o p)
+unfolding orElse
+either-said l none p f g = g
+either-said l (some x) p f g = f
+
+module _ (l : List ℕ) (a : listed l 12 ≡ true) (b : listed l 10 ≡ true) (c : listed l 11 ≡ true) (s : State) where
+  pub back-begins : NamedBy l (backBegins s)
+  back-begins = check-named l (length (s .cells)) (s .settings) (capacityOf (s .journal)) (s .depth) a b c
+
+  pub run-begins : (kind : Kind) → ((n : ℕ) → kind ≡ Profile n → listed l 60 ≡ true) → NamedBy l (runBegins kind s)
+  run-begins kind f = either-said l _ _ back-begins (barred-named l kind (s .cells) f)
+
+-- what a call says is on a list if what keeps it from beginning is, and what its body says
+pub call-said : (l : List ℕ) (o : Option Said) (body : ℕ → ℕ → State → Out) (n : ℕ) (s : State) → NamedBy l o
+    → (o ≡ none → listed l (body n 0 s .said .number) ≡ true) → listed l (called o body n s .said .number) ≡ true
+call-said l (some x) body n s h f = h
+call-said l none body n s h f = f refl

@@ -14,24 +14,26 @@ use borrow.Author.Tests.{eq-eqb, ne-eqb, eqb-false}
 use Rattle.effect.specs.Parts.{Effect}
 use Rattle.machine.specs.State.{State, mostCells, capacityOf}
 use Rattle.journal.specs.Journal.{applyOf, lastOf, damagedOf, undoOf}
-use Rattle.machine.specs.Stops.{plainly}
+use Rattle.machine.specs.Stops.{Said, plainly}
+use Rattle.machine.specs.declared.Kind.{Kind}
+use Rattle.machine.specs.declared.Kind.the-variants.{Plain, Profile}
 use Rattle.step.specs.Step.{Course, going, stopped, refused, actionIn, effectIn, refusalOf, moved, stepOf}
-use Rattle.call.specs.Calls.{Out, stopAt, goOn, runFrom, backFrom, checkIn, called, backOf}
+use Rattle.call.specs.Calls.{Out, stopAt, goOn, runFrom, backFrom, saidBy, runBegins, backBegins, called, runOf, backOf}
 use Rattle.effect.proofs.Blind as blind
 use Rattle.step.specs.Steps.{steps}
 use Rattle.journal.proofs.Room.{room}
-use Rattle.step.proofs.Keeps.{clear, formed-in, lawful-after}
+use Rattle.step.proofs.Keeps.{clear, plain-too, formed-in, lawful-after}
 use Rattle.machine.specs.Lawful.{Lawful}
 use Rattle.journal.proofs.Undo.{Room, withJournal, intact-with, undo-with, up-to, last-known, earlier-known, lengths}
 use Rattle.call.proofs.Counts.{done, course-done}
 use Rattle.call.proofs.Checks.{passes}
-use Rattle.demand.specs.Journey.{Call, Step, Run, Back, Trip, setOut, call, travel, seen, Arrived}
+use Rattle.demand.specs.Journey.{Call, Step, Run, ProfileRun, Back, Trip, setOut, forward, call, travel, seen, Arrived}
 
 module _ (s₀ : State) (lawful₀ : Lawful s₀) (empty : s₀ .depth ≡ 0) where
   -- n steps, each of them done
   data Trace : ℕ → State → Type 0 where
     start : Trace zero s₀
-    step : {n : ℕ} {t : State} → Trace n t → refusalOf t ≡ none → Trace (suc n) (applyOf (effectIn t) t)
+    step : {n : ℕ} {t : State} → Trace n t → refusalOf Plain t ≡ none → Trace (suc n) (applyOf (effectIn t) t)
 
   trace-depth : {n : ℕ} {t : State} → Trace n t → t .depth ≡ n
   trace-depth start = empty
@@ -39,16 +41,16 @@ module _ (s₀ : State) (lawful₀ : Lawful s₀) (empty : s₀ .depth ≡ 0) wh
 
   trace-lawful : {n : ℕ} {t : State} → Trace n t → Lawful t
   trace-lawful start = lawful₀
-  trace-lawful (step {n} {t} r h) = lawful-after t (trace-lawful r) (clear t h)
+  trace-lawful (step {n} {t} r h) = lawful-after t (trace-lawful r) (clear Plain t h)
 
-  done-step : (t : State) → refusalOf t ≡ none → stepOf t .state ≡ applyOf (effectIn t) t
+  done-step : (t : State) → refusalOf Plain t ≡ none → stepOf Plain t .state ≡ applyOf (effectIn t) t
   unfolding stepOf
   done-step t h = rw h
 
-  trace-steps : {n : ℕ} {t : State} → Trace n t → steps n s₀ ≡ t
+  trace-steps : {n : ℕ} {t : State} → Trace n t → steps Plain n s₀ ≡ t
   unfolding steps
   trace-steps start = refl
-  trace-steps (step {n} {t} r h) = ap (λ (x : State). stepOf x .state) (trace-steps r) ∙ done-step t h
+  trace-steps (step {n} {t} r h) = ap (λ (x : State). stepOf Plain x .state) (trace-steps r) ∙ done-step t h
 
   -- where a state is, after f steps forward and b back: far steps on from the start, with a journal that holds the entries of these
   record Reached (s : State) (f b : ℕ) : Type 0 where
@@ -66,7 +68,7 @@ module _ (s₀ : State) (lawful₀ : Lawful s₀) (empty : s₀ .depth ≡ 0) wh
   unfolding capacityOf
   capacity-blind t j long = rw long
 
-  refusal-blind : (t : State) (j : List ℕ) → length j ≡ length (t .journal) → refusalOf (withJournal t j) ≡ refusalOf t
+  refusal-blind : (t : State) (j : List ℕ) → length j ≡ length (t .journal) → refusalOf Plain (withJournal t j) ≡ refusalOf Plain t
   unfolding refusalOf
   refusal-blind t j long = rw (capacity-blind t j long, blind.refusal-blind t (t .depth) j (actionIn t))
 
@@ -76,9 +78,9 @@ module _ (s₀ : State) (lawful₀ : Lawful s₀) (empty : s₀ .depth ≡ 0) wh
 
   -- a step forward that is done
   took : (t : State) (j : List ℕ) {n f b : ℕ} → Trace n t → f ≡ b + n → take (8 * t .depth) j ≡ take (8 * t .depth) (t .journal)
-      → length j ≡ length (t .journal) → refusalOf t ≡ none → Reached (applyOf (effectIn t) (withJournal t j)) (f + 1) b
+      → length j ≡ length (t .journal) → refusalOf Plain t ≡ none → Reached (applyOf (effectIn t) (withJournal t j)) (f + 1) b
   took t j {n} r c words long h =
-      let m : Room t = room (t .journal) (t .depth) (clear t h .space) in
+      let m : Room t = room (t .journal) (t .depth) (clear Plain t h .space) in
       let m′ : Room (withJournal t j) = omega arith in
       record {
         far = suc n;
@@ -91,25 +93,26 @@ module _ (s₀ : State) (lawful₀ : Lawful s₀) (empty : s₀ .depth ≡ 0) wh
         long = lengths (effectIn t) (withJournal t j) .2 ∙ long ∙ sym (lengths (effectIn t) t .2);
       }
 
-  went : (s : State) (f b : ℕ) (o : Option ℕ) → Reached s f b → refusalOf s ≡ o → Reached (moved o s .state) (f + done (moved o s .course)) b
-  went s f b (some k) r h = rw (add-zero f) r
-  went s f b none r h =
+  -- a step of either kind of run: one that a profile does is one that a plain run does
+  went : (kind : Kind) (s : State) (f b : ℕ) (o : Option ℕ) → Reached s f b → refusalOf kind s ≡ o → Reached (moved o s .state) (f + done (moved o s .course)) b
+  went kind s f b (some k) r h = rw (add-zero f) r
+  went kind s f b none r h =
       let j = r .journal in
-      let free : refusalOf (r .there) ≡ none = sym (refusal-blind (r .there) j (r .long)) ∙ ap refusalOf (sym (r .state)) ∙ h in
+      let free : refusalOf Plain (r .there) ≡ none = sym (refusal-blind (r .there) j (r .long)) ∙ ap (refusalOf Plain) (sym (r .state)) ∙ plain-too s (clear kind s h) in
       let at : applyOf (effectIn s) s ≡ applyOf (effectIn (r .there)) (withJournal (r .there) j) =
       ap (λ (x : State). applyOf (effectIn x) x) (r .state) ∙ ap (λ (e : Effect). applyOf e (withJournal (r .there) j)) (effect-blind (r .there) j) in
       rw (course-done s, at) (took (r .there) j (r .trace) (r .count) (r .words) (r .long) free)
 
-  goes-forward : (s : State) (f b : ℕ) → Reached s f b → Reached (stepOf s .state) (f + done (stepOf s .course)) b
+  goes-forward : (kind : Kind) (s : State) (f b : ℕ) → Reached s f b → Reached (stepOf kind s .state) (f + done (stepOf kind s .course)) b
   unfolding stepOf
-  goes-forward s f b r = went s f b (refusalOf s) r refl
+  goes-forward kind s f b r = went kind s f b (refusalOf kind s) r refl
 
   -- a step back: the last step is undone
-  returned : (t : State) (j : List ℕ) → Lawful t → refusalOf t ≡ none
+  returned : (t : State) (j : List ℕ) → Lawful t → refusalOf Plain t ≡ none
       → take (8 * (t .depth + 1)) j ≡ take (8 * (t .depth + 1)) (applyOf (effectIn t) t .journal) → length j ≡ length (t .journal)
       → (damagedOf (length (applyOf (effectIn t) t .cells)) (lastOf j (t .depth + 1)) ≡ false) × (undoOf (withJournal (applyOf (effectIn t) t) j) ≡ withJournal t j)
   returned t j l h words long =
-      let c = clear t h in
+      let c = clear Plain t h in
       let m = room (t .journal) (t .depth) (c .space) in
       let k = last-known (effectIn t) t m j words long in
       let w = formed-in t l c in
@@ -134,7 +137,7 @@ module _ (s₀ : State) (lawful₀ : Lawful s₀) (empty : s₀ .depth ≡ 0) wh
       let long′ : length j ≡ length (t .journal) = long ∙ lengths (effectIn t) t .2 in
       let q = returned t j (trace-lawful r) h words long′ in
       let d = trace-depth r in
-      let m = room (t .journal) (t .depth) (clear t h .space) in
+      let m = room (t .journal) (t .depth) (clear Plain t h .space) in
       record {
         intact = λ z. rw st (q .0);
         before = λ z. rw (st, q .1) (record {
@@ -162,10 +165,10 @@ module _ (s₀ : State) (lawful₀ : Lawful s₀) (empty : s₀ .depth ≡ 0) wh
   ran rest (stopped x) k a b s r f = rw (← add-assoc a k 1) r
   ran rest (refused x) k a b s r f = rw add-zero at r
 
-  runs : (n k a b : ℕ) (s : State) → Reached s (a + k) b → Reached (runFrom n k s .state) (a + runFrom n k s .count) b
+  runs : (kind : Kind) (n k a b : ℕ) (s : State) → Reached s (a + k) b → Reached (runFrom kind n k s .state) (a + runFrom kind n k s .count) b
   unfolding runFrom
-  runs zero k a b s r = r
-  runs (suc n) k a b s r = ran (runFrom n) (stepOf s .course) k a b (stepOf s .state) (goes-forward s (a + k) b r) (λ j t. runs n j a b t)
+  runs kind zero k a b s r = r
+  runs kind (suc n) k a b s r = ran (runFrom kind n) (stepOf kind s .course) k a b (stepOf kind s .state) (goes-forward kind s (a + k) b r) (λ j t. runs kind n j a b t)
 
   -- going back, of which k steps were done before
   homeward : (t u : Bool) (rest : ℕ → State → Out) (k a b : ℕ) (s : State) → eqb (s .depth) 0 ≡ t
@@ -185,22 +188,27 @@ module _ (s₀ : State) (lawful₀ : Lawful s₀) (empty : s₀ .depth ≡ 0) wh
       (goes-back s a (b + k) r) (λ j t. returns n j a b t)
 
   -- a call, refused at once or not
-  called-forward : (o : Option ℕ) (n a b : ℕ) (s : State) → Reached s a b → Reached (called o runFrom n s .state) (a + called o runFrom n s .count) b
-  called-forward (some k) n a b s r = rw (add-zero a) r
-  called-forward none n a b s r = runs n 0 a b s (rw (add-zero a) r)
+  called-forward : (kind : Kind) (o : Option Said) (n a b : ℕ) (s : State) → Reached s a b
+      → Reached (called o (runFrom kind) n s .state) (a + called o (runFrom kind) n s .count) b
+  called-forward kind (some x) n a b s r = rw (add-zero a) r
+  called-forward kind none n a b s r = runs kind n 0 a b s (rw (add-zero a) r)
 
-  called-back : (o : Option ℕ) (n a b : ℕ) (s : State) → Reached s a b → Reached (called o backFrom n s .state) a (b + called o backFrom n s .count)
-  called-back (some k) n a b s r = rw (add-zero b) r
+  called-back : (o : Option Said) (n a b : ℕ) (s : State) → Reached s a b → Reached (called o backFrom n s .state) a (b + called o backFrom n s .count)
+  called-back (some x) n a b s r = rw (add-zero b) r
   called-back none n a b s r = returns n 0 a b s (rw (add-zero b) r)
 
   -- any calls
   abbrev At : Trip → Type 0
   At w = Reached (w .state) (w .ahead) (w .behind)
 
+  forwards : (kind : Kind) (n : ℕ) (w : Trip) → At w → At (forward (runOf kind n (w .state)) w)
+  forwards kind n w r = called-forward kind (runBegins kind (w .state)) n (w .ahead) (w .behind) (w .state) r
+
   calls : (c : Call) (w : Trip) → At w → At (call c w)
-  calls Step w r = called-forward (checkIn (w .state)) 1 (w .ahead) (w .behind) (w .state) r
-  calls (Run n) w r = called-forward (checkIn (w .state)) n (w .ahead) (w .behind) (w .state) r
-  calls (Back n) w r = called-back (checkIn (w .state)) n (w .ahead) (w .behind) (w .state) r
+  calls Step w r = forwards Plain 1 w r
+  calls (Run n) w r = forwards Plain n w r
+  calls (ProfileRun l n) w r = forwards (Profile l) n w r
+  calls (Back n) w r = called-back (backBegins (w .state)) n (w .ahead) (w .behind) (w .state) r
 
   travels : (cs : List Call) (w : Trip) → At w → At (travel cs w)
   unfolding travel
@@ -213,17 +221,17 @@ module _ (s₀ : State) (lawful₀ : Lawful s₀) (empty : s₀ .depth ≡ 0) wh
 
   module _ (some-cells : 1 ≤ length (s₀ .cells)) (few-cells : length (s₀ .cells) ≤ mostCells) where
     -- no call on a state that was reached is refused at once
-    fine : (s : State) (f b : ℕ) → Reached s f b → checkIn s ≡ none
+    fine : (s : State) (f b : ℕ) → Reached s f b → backBegins s ≡ none
     fine s f b r =
         let t = r .there in
         let l = trace-lawful (r .trace) in
         let cells = trace-cells (r .trace) in
-        ap checkIn (r .state) ∙ passes (length (t .cells)) (t .settings) (capacityOf (r .journal)) (t .depth) (record {
+        ap backBegins (r .state) ∙ ap saidBy (passes (length (t .cells)) (t .settings) (capacityOf (r .journal)) (t .depth) (record {
           some-cells = rw cells some-cells;
           few-cells = rw cells few-cells;
           settled = l .ready .settled;
           room = rw (capacity-blind t (r .journal) (r .long)) (l .ready .room);
-        })
+        }))
 
     -- a single step back
     single : (s : State) (f b : ℕ) → Reached s f b → backOf 1 s ≡ backFrom 1 0 s
@@ -241,7 +249,7 @@ module _ (s₀ : State) (lawful₀ : Lawful s₀) (empty : s₀ .depth ≡ 0) wh
     arrived w r =
         let c = r .count in
         let far : w .ahead - w .behind ≡ r .far = omega arith in
-        let s : steps (w .ahead - w .behind) s₀ ≡ r .there = rw far (trace-steps (r .trace)) in
+        let s : steps Plain (w .ahead - w .behind) s₀ ≡ r .there = rw far (trace-steps (r .trace)) in
         let d : r .there .depth ≡ w .ahead - w .behind = trace-depth (r .trace) ∙ sym far in
         let k = goes-back (w .state) (w .ahead) (w .behind) r in
         let one = single (w .state) (w .ahead) (w .behind) r in

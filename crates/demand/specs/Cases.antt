@@ -8,6 +8,7 @@ use lib.ListN.{getD, set, replicate}
 use Rattle.text.specs.Text.{bytes}
 use Rattle.line.specs.Line.{lineOf}
 use Rattle.machine.specs.State.{State}
+use Rattle.machine.specs.declared.Kind.the-variants.{Plain}
 use Rattle.call.specs.Calls.{Out, runOf}
 
 -- What a step is given: R1, R2 and the flags; and what it leaves: R1, R2, R3, PC, the flags and the stop's number.
@@ -92,7 +93,7 @@ left o a =
 
 -- the cell prints as the line, and one step leaves what the case says
 unfoldable pub holds : Case → Bool
-holds (case line c b a) = same (lineOf c) (bytes line) && left (runOf 1 (stage c b)) a
+holds (case line c b a) = same (lineOf c) (bytes line) && left (runOf Plain 1 (stage c b)) a
 
 unfoldable pub all : (Case → Bool) → List Case → Bool
 all f [] = true

@@ -1,26 +1,29 @@
--- Demands 1 and 2: what each call may say; that a run is the definition's step repeated, and a going back its step back, until one of
--- the stops of document 01, 'Stops of step, run and back'.
+-- Demands 1 and 2: what each call may say; that a run, plain or of a profile, is the definition's step repeated, and a going back its step
+-- back, until one of the stops of document 01, 'Stops of step, run and back', and of document 02, 2026-02.
 use Prim.Native.Nat.{ℕ, suc, _+_, _/_, _%_, _<_}
 use mathlib.Core.Path.{_≡_}
 use mathlib.Core.Bool.{Bool, true, false, _||_}
-use mathlib.Core.Option.{none, some}
+use mathlib.Core.Option.{Option, none, some}
 use mathlib.Core.List.{List, [], _∷_}
 use lib.Dec.{eqb}
 use Rattle.machine.specs.State.{State}
+use Rattle.machine.specs.declared.Kind.{Kind}
+use Rattle.machine.specs.declared.Kind.the-variants.{Plain, Profile}
 use Rattle.machine.specs.Stops.{Said, plainly}
 use Rattle.journal.specs.Undos.{undos, damagedIn, Undoable}
 use Rattle.step.specs.Step.{going, stopped, refused}
 use Rattle.step.specs.Steps.{steps, courseAfter}
-use Rattle.call.specs.Calls.{Out, stopAt, checkIn}
+use Rattle.call.specs.Calls.{Out, stopAt}
 
 -- x is one of the list
 unfoldable pub listed : List ℕ → ℕ → Bool
 listed [] x = false
 listed (y ∷ ys) x = eqb x y || listed ys x
 
--- the numbers of step and run, and of back
-abbrev pub runStops : List ℕ
-runStops = 0 ∷ 1 ∷ 2 ∷ 3 ∷ 4 ∷ 5 ∷ 6 ∷ 7 ∷ 10 ∷ 11 ∷ 12 ∷ []
+-- the numbers of step and run, of a profile run, and of back
+abbrev pub runStops : Kind → List ℕ
+runStops Plain = 0 ∷ 1 ∷ 2 ∷ 3 ∷ 4 ∷ 5 ∷ 6 ∷ 7 ∷ 10 ∷ 11 ∷ 12 ∷ []
+runStops (Profile l) = 0 ∷ 1 ∷ 2 ∷ 62 ∷ 7 ∷ 5 ∷ 61 ∷ 10 ∷ 11 ∷ 12 ∷ 60 ∷ []
 
 abbrev pub backStops : List ℕ
 backStops = 0 ∷ 8 ∷ 9 ∷ 10 ∷ 11 ∷ 12 ∷ []
@@ -46,23 +49,23 @@ abbrev pub illegalIn : State → ℕ
 illegalIn s = s .settings .flags / 128 % 2
 
 -- each of the first k steps is done and goes on
-abbrev pub GoesOn : ℕ → State → Type 0
-GoesOn k s = (j : ℕ) → j < k → courseAfter j s ≡ going
+abbrev pub GoesOn : Kind → ℕ → State → Type 0
+GoesOn kind k s = (j : ℕ) → j < k → courseAfter kind j s ≡ going
 
 -- When a run of budget n from s ends, with how many steps done, and what it says.
-pub data Ends (n : ℕ) (s : State) : ℕ → Said → Type 0 where
+pub data Ends (kind : Kind) (n : ℕ) (s : State) : ℕ → Said → Type 0 where
   -- all n steps went on: 0
-  spent : GoesOn n s → Ends n s n (plainly 0)
+  spent : GoesOn kind n s → Ends kind n s n (plainly 0)
   -- the last step that was done named the stop
-  last : (k : ℕ) (x : Said) → k < n → GoesOn k s → courseAfter k s ≡ stopped x → Ends n s (suc k) x
+  last : (k : ℕ) (x : Said) → k < n → GoesOn kind k s → courseAfter kind k s ≡ stopped x → Ends kind n s (suc k) x
   -- the step after the last one done is refused with it
-  next : (k : ℕ) (x : Said) → k < n → GoesOn k s → courseAfter k s ≡ refused x → Ends n s k x
+  next : (k : ℕ) (x : Said) → k < n → GoesOn kind k s → courseAfter kind k s ≡ refused x → Ends kind n s k x
 
 -- A run of budget n from s that left o: as many steps of the definition as it counts; it ends where they do; 0 says that all n are done;
 -- the count is the rise of depth.
-pub record Repeated (n : ℕ) (s : State) (o : Out) : Type 0 where
-  pub state : o .state ≡ steps (o .count) s
-  pub ends : Ends n s (o .count) (o .said)
+pub record Repeated (kind : Kind) (n : ℕ) (s : State) (o : Out) : Type 0 where
+  pub state : o .state ≡ steps kind (o .count) s
+  pub ends : Ends kind n s (o .count) (o .said)
   pub full : o .said ≡ plainly 0 → o .count ≡ n
   pub rise : o .state .depth ≡ s .depth + o .count
 
@@ -85,7 +88,7 @@ pub record Returned (n : ℕ) (s : State) (o : Out) : Type 0 where
   pub ends : Falls n s (o .count) (o .said)
   pub fall : o .count + o .state .depth ≡ s .depth
 
--- A whole call on s that left o: refused at once with 12, 10 or 11 and nothing done, or what the call is for.
-pub record Called (Done : Out → Type 0) (s : State) (o : Out) : Type 0 where
-  pub refusal : (k : ℕ) → checkIn s ≡ some k → o ≡ stopAt (plainly k) 0 s
-  pub else : checkIn s ≡ none → Done o
+-- A whole call on s that left o: refused at once with what keeps it from beginning, and nothing done; or what the call is for.
+pub record Called (begins : Option Said) (Done : Out → Type 0) (s : State) (o : Out) : Type 0 where
+  pub refusal : (x : Said) → begins ≡ some x → o ≡ stopAt x 0 s
+  pub else : begins ≡ none → Done o

@@ -5,14 +5,16 @@ use mathlib.Core.List.{List, [], _∷_}
 use Rattle.machine.specs.declared.Settings.{Settings}
 use Rattle.machine.specs.State.{State, stateOf}
 use Rattle.machine.specs.Stops.{plainly}
+use Rattle.machine.specs.declared.Kind.the-variants as kind
 use Rattle.step.specs.Steps.{steps}
 use Rattle.call.specs.Calls.{Out, runOf, backOf}
 use Rattle.job.specs.Job.{loadOf}
 
--- A call: a step, a run of a budget, or back by a number.
+-- A call: a step, a run of a budget, a profile run of a rule's length and a budget, or back by a number.
 pub data Call : Type 0 where
   Step : Call
   Run : ℕ → Call
+  ProfileRun : ℕ → ℕ → Call
   Back : ℕ → Call
 
 -- A machine with its cells and journal, and how many steps were done forward and back.
@@ -32,8 +34,9 @@ abbrev pub backward : Out → Trip → Trip
 backward o w = record { state = o .state; ahead = w .ahead; behind = w .behind + o .count }
 
 abbrev pub call : Call → Trip → Trip
-call Step w = forward (runOf 1 (w .state)) w
-call (Run n) w = forward (runOf n (w .state)) w
+call Step w = forward (runOf kind.Plain 1 (w .state)) w
+call (Run n) w = forward (runOf kind.Plain n (w .state)) w
+call (ProfileRun l n) w = forward (runOf (kind.Profile l) n (w .state)) w
 call (Back n) w = backward (backOf n (w .state)) w
 
 -- each call is given the machine the last one left, with the same cells and journal
@@ -58,8 +61,8 @@ loaded job cells journal = stateOf (loadOf job cells .machine) (loadOf job cells
 -- done. One step back is refused with 8 where f = b, and taken, which says 0, wherever else.
 pub record Arrived (s : State) (w : Trip) : Type 0 where
   pub fewer : w .behind ≤ w .ahead
-  pub sight : seen (w .state) ≡ seen (steps (w .ahead - w .behind) s)
+  pub sight : seen (w .state) ≡ seen (steps kind.Plain (w .ahead - w .behind) s)
   pub depth : w .state .depth ≡ w .ahead - w .behind
-  pub taken : steps (w .ahead - w .behind) s .depth ≡ w .ahead - w .behind
+  pub taken : steps kind.Plain (w .ahead - w .behind) s .depth ≡ w .ahead - w .behind
   pub start : w .ahead ≡ w .behind → backOf 1 (w .state) .said ≡ plainly 8
   pub elsewhere : (w .ahead ≡ w .behind → ⊥) → backOf 1 (w .state) .said ≡ plainly 0
