@@ -1,4 +1,4 @@
--- One step of a rule that a profile allows: PC rises, the code stays as it is, and the step answers nothing of its own.
+-- One step of a rule that a profile allows: PC rises, the code stays as it is, and there is neither an INT nor float arithmetic.
 -- Assumes nothing.
 use Prim.Native.Nat.{ℕ, _+_, _%_, _^_, _≤_, _<_}
 use mathlib.Core.Path.{_≡_, refl, sym, ap, _∙_}
@@ -15,7 +15,7 @@ use Rattle.machine.specs.declared.Kind.the-variants.{Profile}
 use Rattle.machine.specs.State.{State, pcOf, mostCells, writeIf}
 use Rattle.machine.specs.Addresses.{maskAddress, modeAddress}
 use Rattle.machine.proofs.Tests.{picked}
-use Rattle.effect.specs.Parts.{Write, Effect, Onward, still, store, load, illegal}
+use Rattle.effect.specs.Parts.{Write, Effect, Onward, Interrupt, still, store, load}
 use Rattle.effect.specs.Action.{Action, Cpswp, Ldst, Put, Operate, Split, Bz, Int, Float, Illegal, Value, R, Imm, Extended, Lower, Upper}
 use Rattle.effect.specs.Operands.{reg, nextOf, valueOf}
 use Rattle.effect.specs.Effect.{illegalLoad, illegalStore, effectOf}
@@ -61,7 +61,6 @@ high s (Lower i x) h = false-true h
 pub record Ahead (l : ℕ) (s : State) (e : Effect) : Type 0 where
   pub later : length (s .regs) ≡ 256 → pcOf (s .regs) < pcOf (regsAfter e (s .regs))
   pub kept : e .store .used ≡ true → l ≤ e .store .address
-  pub onward : e .answer ≡ Onward
 
 module _ (l : ℕ) (s : State) (low : pcOf (s .regs) < 65536) where
   -- the same where R255 is not written
@@ -70,7 +69,6 @@ module _ (l : ℕ) (s : State) (low : pcOf (s .regs) < 65536) where
     a : (e .a .used && eqb 255 (e .a .number)) ≡ false
     b : (e .b .used && eqb 255 (e .b .number)) ≡ false
     kept : e .store .used ≡ true → l ≤ e .store .address
-    onward : e .answer ≡ Onward
 
   next : pcOf (s .regs) < nextOf (s .regs)
   next = omega arith
@@ -88,37 +86,34 @@ module _ (l : ℕ) (s : State) (low : pcOf (s .regs) < 65536) where
   steadily e h = record {
     later = λ long. rw (pc-stays (e .reversed) (e .a) (e .b) (e .pc) (h .a) (h .b) long) (h .pc);
     kept = h .kept;
-    onward = h .onward;
   }
 
   steady : Steady (still s)
-  steady = record { pc = next; a = refl; b = refl; kept = false-true; onward = refl }
+  steady = record { pc = next; a = refl; b = refl; kept = false-true }
 
   -- a store that is not into the code
   stored : (p v : ℕ) → (leb 1 p && ltb p l) ≡ false → Steady (store p v (still s))
   stored p v g =
       picked Steady (eqb p 0) _ _ (λ t. steady) (λ t.
-      picked Steady (eqb p maskAddress) _ _ (λ u. record { pc = next; a = refl; b = refl; kept = false-true; onward = refl }) (λ u.
-      picked Steady (eqb p modeAddress) _ _ (λ w. record { pc = next; a = refl; b = refl; kept = false-true; onward = refl }) (λ w. record {
+      picked Steady (eqb p maskAddress) _ _ (λ u. record { pc = next; a = refl; b = refl; kept = false-true }) (λ u.
+      picked Steady (eqb p modeAddress) _ _ (λ w. record { pc = next; a = refl; b = refl; kept = false-true }) (λ w. record {
         pc = next;
         a = refl;
         b = refl;
         kept = λ z. (let q = eqb-false p 0 t in let c : 1 ≤ p = omega (arith, q) in ltb-false p l (rw (le-leb 1 p c) at g));
-        onward = refl;
       })))
 
   loaded : (p n v : ℕ) (e : Effect) → eqb n 255 ≡ false → Steady e → Steady (load p n v e)
-  loaded p n v e h k = picked Steady (eqb p 0) _ _ (λ t. k) (λ t. record { pc = k .pc; a = turned n h; b = k .b; kept = k .kept; onward = k .onward })
+  loaded p n v e h k = picked Steady (eqb p 0) _ _ (λ t. k) (λ t. record { pc = k .pc; a = turned n h; b = k .b; kept = k .kept })
 
   -- 3 to 7: LDUI R255, #65535, or another register
   puts : (t : Bool) (n : ℕ) (v : Value) → eqb n 255 ≡ t → cond (ends v) Allowed (into n Allowed) ≡ Allowed → Ahead l s (effectOf (Put n v) s)
   unfolding effectOf regsAfter
-  puts false n v e h = steadily _ (record { pc = next; a = turned n e; b = refl; kept = false-true; onward = refl })
+  puts false n v e h = steadily _ (record { pc = next; a = turned n e; b = refl; kept = false-true })
   puts true n v e h = record {
     later = λ long. rw (eqb-true n 255 e, getD-set-same (set (s .regs) 255 (nextOf (s .regs))) 255 (valueOf s v) 0 (rw (length-set (s .regs) 255 (nextOf (s .regs))) (omega (arith, long))))
         (omega (arith, high s v (ends-it (ends v) (rw e at h))));
     kept = false-true;
-    onward = refl;
   }
     where
       ends-it : (u : Bool) → cond u Allowed (Flawed flaw.Target) ≡ Allowed → u ≡ true
@@ -139,23 +134,23 @@ module _ (l : ℕ) (s : State) (low : pcOf (s .regs) < 65536) where
   ahead (Cpswp n m k) h g =
       let p = no-target (eqb n 255) _ h in
       let q = no-target (eqb k 255) _ (p .1) in
-      steadily _ (record { pc = next; a = turned n (p .0); b = turned k (q .0); kept = false-true; onward = refl })
+      steadily _ (record { pc = next; a = turned n (p .0); b = turned k (q .0); kept = false-true })
   ahead (Ldst n m k) h g =
       let p = no-target (eqb n 255) _ h in
       steadily _ (picked Steady (illegalLoad (reg s k) || illegalStore (reg s m) (reg s n)) _ _
-      (λ t. record { pc = next; a = refl; b = refl; kept = false-true; onward = refl })
+      (λ t. record { pc = next; a = refl; b = refl; kept = false-true })
       (λ t. loaded (reg s k) n _ (store (reg s m) (reg s n) (still s)) (p .0) (stored (reg s m) (reg s n) g)))
   ahead (Put n v) h g = puts (eqb n 255) n v refl h
   ahead (Operate op n x y) h g =
       let p = no-target (eqb n 255) _ h in
-      steadily _ (record { pc = next; a = turned n (p .0); b = refl; kept = false-true; onward = refl })
+      steadily _ (record { pc = next; a = turned n (p .0); b = refl; kept = false-true })
   ahead (Split x n m k) h g =
       let p = no-target (eqb m 255) _ h in
       let q = no-target (eqb k 255) _ (p .1) in
-      steadily _ (record { pc = next; a = turned m (p .0); b = turned k (q .0); kept = false-true; onward = refl })
+      steadily _ (record { pc = next; a = turned m (p .0); b = turned k (q .0); kept = false-true })
   ahead (Bz n imm) h g =
       steadily _ (picked Steady (eqb (reg s n) 0) _ _
-      (λ t. record { pc = branches imm (forward (ltb 32767 imm) imm refl h); a = refl; b = refl; kept = false-true; onward = refl }) (λ t. steady))
+      (λ t. record { pc = branches imm (forward (ltb 32767 imm) imm refl h); a = refl; b = refl; kept = false-true }) (λ t. steady))
   ahead (Int n imm) h g = flawed-allowed h
   ahead Float h g = flawed-allowed h
   ahead Illegal h g = flawed-allowed h
@@ -177,6 +172,42 @@ code-kept l cells e kept c = record {
 pub allowed-in : (l : ℕ) (s : State) → Code l (s .cells) → pcOf (s .regs) < l → judgedBy (actionIn s) ≡ Allowed
 unfolding judgedOf
 allowed-in l s c h = c .allowed (pcOf (s .regs)) h
+
+-- an allowed action answers nothing of its own, and is no float arithmetic
+module _ (s : State) where
+  abbrev GoesOn : Effect → Type 0
+  GoesOn e = e .answer ≡ Onward
+
+  stores-on : (p v : ℕ) → GoesOn (store p v (still s))
+  stores-on p v =
+      picked GoesOn (eqb p 0) _ _ (λ t. refl) (λ t.
+      picked GoesOn (eqb p maskAddress) _ _ (λ t. refl) (λ t.
+      picked GoesOn (eqb p modeAddress) _ _ (λ t. refl) (λ t. refl)))
+
+  loads-on : (p n v : ℕ) (e : Effect) → GoesOn e → GoesOn (load p n v e)
+  loads-on p n v e h = picked GoesOn (eqb p 0) _ _ (λ t. h) (λ t. h)
+
+  goes-on : (a : Action) → judgedBy a ≡ Allowed → GoesOn (effectOf a s)
+  unfolding effectOf judgedBy
+  goes-on (Cpswp n m k) h = refl
+  goes-on (Ldst n m k) h =
+      picked GoesOn (illegalLoad (reg s k) || illegalStore (reg s m) (reg s n)) _ _ (λ t. refl)
+      (λ t. loads-on (reg s k) n _ (store (reg s m) (reg s n) (still s)) (stores-on (reg s m) (reg s n)))
+  goes-on (Put n v) h = refl
+  goes-on (Operate op n x y) h = refl
+  goes-on (Split x n m k) h = refl
+  goes-on (Bz n imm) h = picked GoesOn (eqb (reg s n) 0) _ _ (λ t. refl) (λ t. refl)
+  goes-on (Int n imm) h = flawed-allowed h
+  goes-on Float h = flawed-allowed h
+  goes-on Illegal h = flawed-allowed h
+
+  pub no-interrupt : judgedBy (actionIn s) ≡ Allowed → (v i : ℕ) → effectIn s .answer ≡ Interrupt v i → ⊥
+  unfolding effectIn
+  no-interrupt h v i e = let a = goes-on (actionIn s) h in let z : _≡_ {A = ℕ} 0 1 = cc in omega arith
+
+  pub no-float : judgedBy (actionIn s) ≡ Allowed → actionIn s ≡ Float → ⊥
+  unfolding judgedBy
+  no-float h e = flawed-allowed (rw e at h)
 
 -- a step of a profile run that is done
 module _ (l : ℕ) (s : State) (code : Code l (s .cells)) (done : refusalOf (Profile l) s ≡ none) where

@@ -3,6 +3,7 @@ pub mod Stops
 pub mod Outcome
 pub mod Repeat
 pub mod Ahead
+pub mod Forward
 pub mod Return
 pub mod Illegal
 pub mod Travel

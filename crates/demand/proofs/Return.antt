@@ -85,7 +85,7 @@ falls-listed (damaged k h g d c) = refl
 
 pub back-said : (n : ℕ) (s : State) → listed backStops (backOf n s .said .number) ≡ true
 unfolding listed
-back-said n s = call-said backStops (backBegins s) backFrom n s (back-begins backStops refl refl refl s) (λ h. falls-listed (back-far n 0 s .ends))
+back-said n s = call-said backStops (backBegins s) backFrom n s (back-begins backStops refl refl refl s) (λ h. falls-listed (returned n s h .ends))
 
 -- the end of a going back is determined by depths and entries
 not-whole : {t : Bool} → t ≡ true → t ≡ false → ⊥

@@ -1,14 +1,14 @@
 -- Which stops a step and the check of a call may name: each is on the list for the call, of document 01 or of document 02, 2026-02.
 -- Assumes nothing.
-use Prim.Native.Nat.{ℕ, _<_}
+use Prim.Native.Nat.{ℕ, _≤_, _<_}
 use mathlib.Core.Path.{_≡_, refl}
-use mathlib.Core.Bool.{Bool, true, false, _||_}
+use mathlib.Core.Bool.{Bool, true, false, _&&_, _||_}
 use mathlib.Core.Option.{Option, none, some, orElse}
 use mathlib.Core.List.{List, [], _∷_, _++_}
 use native.Mathlib.Omega.{arith}
 use lib.Dec.{leb, ltb, eqb}
 use lib.ListN.{length}
-use borrow.Author.Tests.{eqb-true, leb-false}
+use borrow.Author.Tests.{eqb-true, leb-true, leb-false}
 use Rattle.effect.specs.Parts.{Answer, Onward, Interrupt, Effect}
 use Rattle.machine.specs.declared.Kind.{Kind}
 use Rattle.machine.specs.declared.Kind.the-variants.{Plain, Profile}
@@ -51,7 +51,7 @@ pub record Has (l : List ℕ) (kind : Kind) (s : State) : Type 0 where
   pub off : listed l (outside kind) ≡ true
   pub fault : listed l 5 ≡ true
   pub float : pcOf (s .regs) < codeOf kind s → actionIn s ≡ Float → listed l 6 ≡ true
-  pub full : listed l 7 ≡ true
+  pub full : pcOf (s .regs) < codeOf kind s → capacityOf (s .journal) ≤ s .depth → listed l 7 ≡ true
   pub guard : Named l (guardOf kind (actionIn s) s)
 
 by-action : (l : List ℕ) (s : State) → listed l 5 ≡ true → (a : Action) → (a ≡ Float → listed l 6 ≡ true) → Named l (refusedBy a s)
@@ -77,7 +77,7 @@ unfolding refusalOf
 refusal-named l kind s h =
     picked (Named l) (endedOf (s .regs)) _ _ (λ t. h .ended) (λ t.
     picked (Named l) (leb (codeOf kind s) (pcOf (s .regs))) _ _ (λ t. h .off) (λ u.
-    picked (Named l) (leb (capacityOf (s .journal)) (s .depth)) _ _ (λ t. h .full) (λ t.
+    picked (Named l) (leb (capacityOf (s .journal)) (s .depth)) _ _ (λ t. h .full (leb-false _ _ u) (leb-true _ _ t)) (λ t.
     either-named l _ _ (by-action l s (h .fault) (actionIn s) (h .float (leb-false _ _ u))) (h .guard))))
 
 answer-fine : (l : List ℕ) (a : Answer) (e : Effect) → listed l 2 ≡ true → ((v i : ℕ) → a ≡ Interrupt v i → listed l 3 ≡ true) → Fine l (answered a e)
@@ -122,7 +122,7 @@ any-step kind s = record {
   off = off-listed kind;
   fault = refl;
   float = λ q e. refl;
-  full = refl;
+  full = λ q e. refl;
   guard = guard-named kind s;
 }
 
@@ -131,17 +131,21 @@ either-way : (t : Bool) {a b : Bool} → (t ≡ true → b ≡ true) → (a ≡ 
 either-way true f g h = f refl
 either-way false f g h = g h
 
-abbrev pub Within : List ℕ → List ℕ → Type 0
-Within [] r = Prim.Unit {0}
-Within (y ∷ l) r = (listed r y ≡ true) × Within l r
+abbrev pub within : List ℕ → List ℕ → Bool
+within [] r = true
+within (y ∷ l) r = listed r y && within l r
+
+both : (a b : Bool) → (a && b) ≡ true → (a ≡ true) × (b ≡ true)
+both true b h = (refl, h)
+both false b h = let z : _≡_ {A = ℕ} 0 1 = cc in absurd (omega arith)
 
 same-number : (x y : ℕ) (r : List ℕ) → listed r y ≡ true → eqb x y ≡ true → listed r x ≡ true
 same-number x y r h e = rw (eqb-true x y e) h
 
-pub widen : (l r : List ℕ) → Within l r → (k : ℕ) → listed l k ≡ true → listed r k ≡ true
+pub widen : (l r : List ℕ) → within l r ≡ true → (k : ℕ) → listed l k ≡ true → listed r k ≡ true
 unfolding listed
 widen [] r w k h = let z : _≡_ {A = ℕ} 0 1 = cc in absurd (omega arith)
-widen (y ∷ l) r w k h = either-way (eqb k y) (same-number k y r (w .0)) (widen l r (w .1) k) h
+widen (y ∷ l) r w k h = let b = both (listed r y) (within l r) w in either-way (eqb k y) (same-number k y r (b .0)) (widen l r (b .1) k) h
 
 -- no step names 0
 pub not-zero : (kind : Kind) (x : Said) → listed (stepStops kind) (x .number) ≡ true → x ≡ plainly 0 → ⊥
@@ -189,8 +193,8 @@ module _ (l : List ℕ) (a : listed l 12 ≡ true) (b : listed l 10 ≡ true) (c
   pub run-begins : (kind : Kind) → ((n : ℕ) → kind ≡ Profile n → listed l 60 ≡ true) → NamedBy l (runBegins kind s)
   run-begins kind f = either-said l _ _ back-begins (barred-named l kind (s .cells) f)
 
--- what a call says is on a list if what keeps it from beginning is, and what its body says
+-- what a call says is on a list if what keeps it from beginning is, and what it says if nothing does
 pub call-said : (l : List ℕ) (o : Option Said) (body : ℕ → ℕ → State → Out) (n : ℕ) (s : State) → NamedBy l o
-    → (o ≡ none → listed l (body n 0 s .said .number) ≡ true) → listed l (called o body n s .said .number) ≡ true
+    → (o ≡ none → listed l (called o body n s .said .number) ≡ true) → listed l (called o body n s .said .number) ≡ true
 call-said l (some x) body n s h f = h
 call-said l none body n s h f = f refl

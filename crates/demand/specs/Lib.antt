@@ -1,4 +1,5 @@
 pub mod Cases
 pub mod Journey
+pub mod Forward
 pub mod Demands
 pub mod Reload
