@@ -59,6 +59,8 @@ pub fn judge(cell: u32) -> Judged
     let opcode = opcode_of(cell);
     let form = form_of(opcode as u8);
     let n = n_of(cell);
+    let m = m_of(cell);
+    let l = l_of(cell);
     let imm = imm_of(cell);
     if let Form::Reserved = form {
         return Judged::Flawed(Flaw::Reserved);
@@ -73,10 +75,10 @@ pub fn judge(cell: u32) -> Judged
         return branch(imm);
     }
     if opcode == 0 {
-        return aim(n, aim(l_of(cell), Judged::Allowed));
+        return aim(n, aim(l, Judged::Allowed));
     }
     if (opcode == 54) | (opcode == 107) {
-        return aim(m_of(cell), aim(l_of(cell), Judged::Allowed));
+        return aim(m, aim(l, Judged::Allowed));
     }
     if (opcode == 4) & (imm == 65535) {
         return Judged::Allowed;

@@ -1,14 +1,20 @@
 -- What one step is, test by test: the stop that refuses it, or the effect that is carried out.
 -- Assumes nothing.
 use Prim.Native.Nat.{ℕ, _≤_, _<_}
-use mathlib.Core.Path.{_≡_}
+use mathlib.Core.Path.{_≡_, refl}
+use mathlib.Core.Bool.{Bool, true, false, cond, _&&_}
+use mathlib.Core.Logic.{_⊎_, inl, inr}
 use mathlib.Core.Option.{none, some, orElse}
-use borrow.Author.Tests.{lt-leb, le-leb}
+use lib.Dec.{leb}
+use borrow.Author.Tests.{lt-leb, le-leb, lt-ltb, le-ltb}
 use Rattle.effect.specs.Parts.{Effect}
 use Rattle.machine.specs.State.{State, capacityOf, firstSpecial, pcOf}
 use Rattle.machine.specs.declared.Kind.{Kind}
+use Rattle.machine.specs.declared.Kind.the-variants.{Profile}
+use Rattle.effect.specs.Action.{Ldst}
+use Rattle.effect.specs.Operands.{reg}
 use Rattle.effect.specs.Refusal.{refusedBy}
-use Rattle.step.specs.Step.{actionIn, codeOf, outside, guardOf, refusalOf, effectIn, refused, doneOf, stepOf}
+use Rattle.step.specs.Step.{actionIn, codeOf, outside, storesInto, guardOf, refusalOf, effectIn, refused, doneOf, stepOf}
 use Rattle.machine.specs.Stops.{plainly}
 
 module _ (kind : Kind) (s : State) where
@@ -37,3 +43,18 @@ module _ (kind : Kind) (s : State) where
       pub looked-at : s .depth < capacityOf (s .journal) → refusalOf kind s ≡ orElse (refusedBy (actionIn s) s) (guardOf kind (actionIn s) s)
       unfolding refusalOf
       looked-at h = rw (lt-leb _ _ on, lt-leb _ _ within, lt-leb _ _ h)
+
+-- 61: exactly the store pointers from 1 to l-1
+module _ (l n m k : ℕ) (s : State) where
+  pub guarded : 1 ≤ reg s m → reg s m < l → guardOf (Profile l) (Ldst n m k) s ≡ some 61
+  unfolding storesInto
+  guarded h i = rw (le-leb _ _ h, lt-ltb _ _ i)
+
+  pub not-guarded : (reg s m ≡ 0) ⊎ (l ≤ reg s m) → guardOf (Profile l) (Ldst n m k) s ≡ none
+  unfolding storesInto
+  not-guarded (inl h) = rw h
+  not-guarded (inr h) = rw (le-ltb (reg s m) l h) (go (leb 1 (reg s m)))
+    where
+      go : (t : Bool) → cond (t && false) (some 61) none ≡ none
+      go true = refl
+      go false = refl
