@@ -77,14 +77,7 @@ unfolding judgedOf judgedBy
 reserved-flawed c x f x-is f-is r = rw (reserved-illegal c (rw (← x-is) (sym f-is ∙ r)))
 
 -- of any other the tests decide
-<<<<<<< HEAD
-pub legal-tests : (c x n imm : ℕ) (f : Form) → c < 2 ^ 32 → x ≡ opcodeOf c → n ≡ nOf c → imm ≡ immOf c → f ≡ formOf x
-    → (tagOf the-type f ≡ 0) ⊎ (tagOf the-type f ≡ 1) → judgedOf c ≡ tests n (mOf c) (lOf c) imm c x
-legal-tests c x n imm f fits x-is n-is imm-is f-is t =
-    by-tests c fits ∙ rw (← x-is, ← n-is, ← imm-is, ← f-is, unreserved f t)
-=======
 pub legal-tests : (c x n m l imm : ℕ) (f : Form) → c < 2 ^ 32 → x ≡ opcodeOf c → n ≡ nOf c → m ≡ mOf c → l ≡ lOf c → imm ≡ immOf c → f ≡ formOf x
     → (tagOf the-type f ≡ 0) ⊎ (tagOf the-type f ≡ 1) → judgedOf c ≡ tests n m l imm c x
 legal-tests c x n m l imm f fits x-is n-is m-is l-is imm-is f-is t =
     by-tests c fits ∙ rw (← x-is, ← n-is, ← m-is, ← l-is, ← imm-is, ← f-is, unreserved f t)
->>>>>>> 0cea35ba5d08df0c4a257e080e5c70822b9dfcf5

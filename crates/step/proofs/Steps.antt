@@ -4,7 +4,7 @@ use Prim.Native.Nat.{ℕ, _≤_, _<_}
 use mathlib.Core.Path.{_≡_, refl}
 use mathlib.Core.Bool.{Bool, true, false, cond, _&&_}
 use mathlib.Core.Logic.{_⊎_, inl, inr}
-use mathlib.Core.Option.{none, some, orElse}
+use mathlib.Core.Option.{Option, none, some, orElse}
 use lib.Dec.{leb}
 use borrow.Author.Tests.{lt-leb, le-leb, lt-ltb, le-ltb}
 use Rattle.effect.specs.Parts.{Effect}
@@ -55,6 +55,6 @@ module _ (l n m k : ℕ) (s : State) where
   not-guarded (inl h) = rw h
   not-guarded (inr h) = rw (le-ltb (reg s m) l h) (go (leb 1 (reg s m)))
     where
-      go : (t : Bool) → cond (t && false) (some 61) none ≡ none
+      go : (t : Bool) → cond {A = Option ℕ} (t && false) (some 61) none ≡ none
       go true = refl
       go false = refl
