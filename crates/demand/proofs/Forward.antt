@@ -120,7 +120,7 @@ forward-only l s long budgets =
 
 -- what a step in the code may name is on a list that has these, and 7 where the journal is full
 has : (l : ℕ) (t : State) → Code l (t .cells) → (r : List ℕ) → within endStops r ≡ true
-    → (pcOf (t .regs) < codeOf (Profile l) t → capacityOf (t .journal) ≤ t .depth → listed r 7 ≡ true) → Has r (Profile l) t
+    → (pcOf (t .regs) < codeOf (Profile l) (length (t .cells)) → capacityOf (t .journal) ≤ t .depth → listed r 7 ≡ true) → Has r (Profile l) t
 unfolding listed
 has l t c r w full = record {
   ended = widen endStops r w 1 refl;

@@ -47,11 +47,11 @@ Fine l (refused x) = listed l (x .number) ≡ true
 pub record Has (l : List ℕ) (kind : Kind) (s : State) : Type 0 where
   pub ended : listed l 1 ≡ true
   pub trap : listed l 2 ≡ true
-  pub int : pcOf (s .regs) < codeOf kind s → (v i : ℕ) → effectIn s .answer ≡ Interrupt v i → listed l 3 ≡ true
+  pub int : pcOf (s .regs) < codeOf kind (length (s .cells)) → (v i : ℕ) → effectIn s .answer ≡ Interrupt v i → listed l 3 ≡ true
   pub off : listed l (outside kind) ≡ true
   pub fault : listed l 5 ≡ true
-  pub float : pcOf (s .regs) < codeOf kind s → actionIn s ≡ Float → listed l 6 ≡ true
-  pub full : pcOf (s .regs) < codeOf kind s → capacityOf (s .journal) ≤ s .depth → listed l 7 ≡ true
+  pub float : pcOf (s .regs) < codeOf kind (length (s .cells)) → actionIn s ≡ Float → listed l 6 ≡ true
+  pub full : pcOf (s .regs) < codeOf kind (length (s .cells)) → capacityOf (s .journal) ≤ s .depth → listed l 7 ≡ true
   pub guard : Named l (guardOf kind (actionIn s) s)
 
 by-action : (l : List ℕ) (s : State) → listed l 5 ≡ true → (a : Action) → (a ≡ Float → listed l 6 ≡ true) → Named l (refusedBy a s)
@@ -76,7 +76,7 @@ refusal-named : (l : List ℕ) (kind : Kind) (s : State) → Has l kind s → Na
 unfolding refusalOf
 refusal-named l kind s h =
     picked (Named l) (endedOf (s .regs)) _ _ (λ t. h .ended) (λ t.
-    picked (Named l) (leb (codeOf kind s) (pcOf (s .regs))) _ _ (λ t. h .off) (λ u.
+    picked (Named l) (leb (codeOf kind (length (s .cells))) (pcOf (s .regs))) _ _ (λ t. h .off) (λ u.
     picked (Named l) (leb (capacityOf (s .journal)) (s .depth)) _ _ (λ t. h .full (leb-false _ _ u) (leb-true _ _ t)) (λ t.
     either-named l _ _ (by-action l s (h .fault) (actionIn s) (h .float (leb-false _ _ u))) (h .guard))))
 

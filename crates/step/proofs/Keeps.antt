@@ -50,28 +50,28 @@ pub record Clear (s : State) : Type 0 where
   pub allowed : refusedBy (actionIn s) s ≡ none
 
 -- the code lies within the cells
-code-within : (kind : Kind) (s : State) → codeOf kind s ≤ length (s .cells)
-code-within Plain s = omega arith
-code-within (Profile l) s = omega arith
+code-within : (kind : Kind) (m : ℕ) → codeOf kind m ≤ m
+code-within Plain m = omega arith
+code-within (Profile l) m = omega arith
 
 -- what a profile run shows besides: PC is in the code, and nothing is stored there
 pub record ClearIn (kind : Kind) (s : State) : Type 0 where
   pub clear : Clear s
-  pub inside : pcOf (s .regs) < codeOf kind s
+  pub inside : pcOf (s .regs) < codeOf kind (length (s .cells))
   pub guarded : guardOf kind (actionIn s) s ≡ none
 
 pub clear-in : (kind : Kind) (s : State) → refusalOf kind s ≡ none → ClearIn kind s
 unfolding refusalOf
 clear-in kind s h =
     let a = past (leb firstSpecial (pcOf (s .regs))) 1 _ h in
-    let b = past (leb (codeOf kind s) (pcOf (s .regs))) (outside kind) _ (a .1) in
+    let b = past (leb (codeOf kind (length (s .cells))) (pcOf (s .regs))) (outside kind) _ (a .1) in
     let c = past (leb (capacityOf (s .journal)) (s .depth)) 7 _ (b .1) in
     let d = neither _ _ (c .1) in
-    let inside : pcOf (s .regs) < codeOf kind s = leb-false _ _ (b .0) in
+    let inside : pcOf (s .regs) < codeOf kind (length (s .cells)) = leb-false _ _ (b .0) in
     record {
       clear = record {
         on = leb-false _ _ (a .0);
-        within = omega (arith, inside, code-within kind s);
+        within = omega (arith, inside, code-within kind (length (s .cells)));
         space = leb-false _ _ (c .0);
         allowed = d .0;
       };

@@ -6,6 +6,7 @@ use mathlib.Core.Bool.{Bool, true, false, cond, _&&_}
 use mathlib.Core.Logic.{_⊎_, inl, inr}
 use mathlib.Core.Option.{Option, none, some, orElse}
 use lib.Dec.{leb}
+use lib.ListN.{length}
 use borrow.Author.Tests.{lt-leb, le-leb, lt-ltb, le-ltb}
 use Rattle.effect.specs.Parts.{Effect}
 use Rattle.machine.specs.State.{State, capacityOf, firstSpecial, pcOf}
@@ -31,11 +32,11 @@ module _ (kind : Kind) (s : State) where
   at-end h = rw (le-leb _ _ h)
 
   module _ (on : pcOf (s .regs) < firstSpecial) where
-    pub off-code : codeOf kind s ≤ pcOf (s .regs) → refusalOf kind s ≡ some (outside kind)
+    pub off-code : codeOf kind (length (s .cells)) ≤ pcOf (s .regs) → refusalOf kind s ≡ some (outside kind)
     unfolding refusalOf
     off-code h = rw (lt-leb _ _ on, le-leb _ _ h)
 
-    module _ (within : pcOf (s .regs) < codeOf kind s) where
+    module _ (within : pcOf (s .regs) < codeOf kind (length (s .cells))) where
       pub full : capacityOf (s .journal) ≤ s .depth → refusalOf kind s ≡ some 7
       unfolding refusalOf
       full h = rw (lt-leb _ _ on, lt-leb _ _ within, le-leb _ _ h)

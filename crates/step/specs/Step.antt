@@ -22,10 +22,10 @@ use Rattle.machine.specs.Stops.{Said, plainly, interrupted}
 abbrev pub actionIn : State → Action
 actionIn s = actionOf (decodeOf (getD (s .cells) (pcOf (s .regs)) 0))
 
--- the cells that a run may fetch from: all of them, or a profile's code
-abbrev pub codeOf : Kind → State → ℕ
-codeOf Plain s = length (s .cells)
-codeOf (Profile l) s = min l (length (s .cells))
+-- how many of m cells, from cell 0 on, a run may fetch from: all, or a profile's code
+abbrev pub codeOf : Kind → ℕ → ℕ
+codeOf Plain m = m
+codeOf (Profile l) m = min l m
 
 -- the stop of a PC past them that has not ended
 abbrev pub outside : Kind → ℕ
@@ -54,7 +54,7 @@ guardOf (Profile l) a s = cond (storesInto l a s) (some 61) none
 unfoldable pub refusalOf : Kind → State → Option ℕ
 refusalOf kind s =
     cond (endedOf (s .regs)) (some 1)
-    (cond (leb (codeOf kind s) (pcOf (s .regs))) (some (outside kind))
+    (cond (leb (codeOf kind (length (s .cells))) (pcOf (s .regs))) (some (outside kind))
     (cond (leb (capacityOf (s .journal)) (s .depth)) (some 7)
     (orElse (refusedBy (actionIn s) s) (guardOf kind (actionIn s) s))))
 
