@@ -4,3 +4,4 @@ pub mod Ranges
 pub mod Opcodes
 pub mod Forms
 pub mod Blind
+pub mod Rows

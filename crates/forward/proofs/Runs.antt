@@ -11,28 +11,30 @@ use lib.Dec.{leb, ltb, eqb}
 use lib.ListN.{length}
 use borrow.Author.Tests.{lt-ltb, eqb-true, eqb-false, lt-leb, leb-true, leb-false}
 use Rattle.machine.specs.State.{State, stateWith, capacityOf, firstSpecial, pcOf}
+use Rattle.machine.specs.declared.Kind.{Kind}
 use Rattle.machine.specs.Stops.{plainly}
 use Rattle.machine.proofs.Tests.{or-left}
 use Rattle.packed.specs.Packed.{unpackedOf}
 use Rattle.journal.specs.Journal.{endedOf, settledOf}
-use Rattle.step.specs.Step.{going, stopped, refusalOf, stepOf}
-use Rattle.step.proofs.Steps.{refused-with, at-end, off-cells, full}
+use Rattle.step.specs.Step.{outside, going, stopped, refusalOf, stepOf}
+use Rattle.step.proofs.Steps.{refused-with, at-end, off-code, full}
 use Rattle.call.specs.Calls.{stopAt, goOn, runFrom}
 use Rattle.carried.specs.Left.{toldInt, toldFault}
-use Rattle.forward.specs.Inner.{heldOf, trapped, stopping, movedBy, endsBy, finalOf, resumeOf, numberOf}
+use Rattle.forward.specs.Inner.{heldOf, trapped, stopping, movedBy, endsBy, finalOf, limitOf, resumeOf, numberOf}
+use Rattle.forward.proofs.Guard.{code-is}
 
 -- a step that does not stop the run
-module _ (n k told : ℕ) (regs : List ℕ) (s cell depth : ℕ) (cells journal : List ℕ) (st : State)
-    (step : movedBy told regs s cell depth cells journal ≡ stepOf st) where
-  pub goes-on : stopping told s ≡ false → resumeOf n (k + 1) regs s (depth + 1) cells journal ≡ runFrom (suc n) k st
+module _ (kind : Kind) (n k told : ℕ) (regs : List ℕ) (s cell depth : ℕ) (cells journal : List ℕ) (st : State)
+    (step : movedBy told regs s cell depth cells journal ≡ stepOf kind st) where
+  pub goes-on : stopping told s ≡ false → resumeOf kind n (k + 1) regs s (depth + 1) cells journal ≡ runFrom kind (suc n) k st
   unfolding movedBy resumeOf runFrom
   goes-on h =
       let low : told < toldInt = leb-false toldInt told (or-left (leb toldInt told) (trapped told s) h) in
       rw (← step, lt-ltb told toldFault (omega arith), h, lt-ltb 0 (k + 1) (omega arith)) (go (endedOf regs))
     where
       go : (t : Bool)
-          → cond t (stopAt (plainly 1) (k + 1) (stateWith regs (settledOf t (unpackedOf s)) (depth + 1) cells journal)) (runFrom n (k + 1) (heldOf regs s (depth + 1) cells journal))
-          ≡ goOn (runFrom n) (cond t (stopped (plainly 1)) going) k (stateWith regs (settledOf t (unpackedOf s)) (depth + 1) cells journal)
+          → cond t (stopAt (plainly 1) (k + 1) (stateWith regs (settledOf t (unpackedOf s)) (depth + 1) cells journal)) (runFrom kind n (k + 1) (heldOf regs s (depth + 1) cells journal))
+          ≡ goOn (runFrom kind n) (cond t (stopped (plainly 1)) going) k (stateWith regs (settledOf t (unpackedOf s)) (depth + 1) cells journal)
       go true = refl
       go false = refl
 
@@ -41,54 +43,57 @@ and-false : (t : Bool) → (t && false) ≡ false
 and-false true = refl
 and-false false = refl
 
-pub not-ended : (n k : ℕ) (regs : List ℕ) (s depth : ℕ) (cells journal : List ℕ) → pcOf regs < firstSpecial
-    → resumeOf n k regs s depth cells journal ≡ runFrom n k (heldOf regs s depth cells journal)
+pub not-ended : (kind : Kind) (n k : ℕ) (regs : List ℕ) (s depth : ℕ) (cells journal : List ℕ) → pcOf regs < firstSpecial
+    → resumeOf kind n k regs s depth cells journal ≡ runFrom kind n k (heldOf regs s depth cells journal)
 unfolding resumeOf
-not-ended n k regs s depth cells journal h = rw (lt-leb firstSpecial (pcOf regs) h, and-false (ltb 0 k))
+not-ended kind n k regs s depth cells journal h = rw (lt-leb firstSpecial (pcOf regs) h, and-false (ltb 0 k))
 
-refused-run : (n k : ℕ) (st : State) (j : ℕ) → refusalOf st ≡ some j → stopAt (plainly j) k st ≡ runFrom (suc n) k st
+pub refused-run : (kind : Kind) (n k : ℕ) (st : State) (j : ℕ) → refusalOf kind st ≡ some j → stopAt (plainly j) k st ≡ runFrom kind (suc n) k st
 unfolding runFrom
-refused-run n k st j h = rw (← refused-with st j h)
+refused-run kind n k st j h = rw (← refused-with kind st j h)
 
--- the loop is over: PC is off the cells, the budget is done, or the journal is full
-module _ (regs cells journal : List ℕ) (s depth done budget : ℕ) (le : done ≤ budget)
-    (over : (length cells ≤ pcOf regs) ⊎ ((done ≡ budget) ⊎ (capacityOf journal ≤ depth))) where
+-- the loop is over: PC is outside the code, the budget is done, or the journal is full
+module _ (kind : Kind) (regs cells journal : List ℕ) (s depth done budget : ℕ) (le : done ≤ budget)
+    (over : (limitOf kind (length cells) ≤ pcOf regs) ⊎ ((done ≡ budget) ⊎ (capacityOf journal ≤ depth))) where
   abbrev held : State
   held = heldOf regs s depth cells journal
 
-  filled : (done ≡ budget → ⊥) → pcOf regs < length cells → capacityOf journal ≤ depth
+  abbrev limit : ℕ
+  limit = limitOf kind (length cells)
+
+  filled : (done ≡ budget → ⊥) → pcOf regs < limit → capacityOf journal ≤ depth
   filled more within = go over
     where
-      go : (length cells ≤ pcOf regs) ⊎ ((done ≡ budget) ⊎ (capacityOf journal ≤ depth)) → capacityOf journal ≤ depth
+      go : (limit ≤ pcOf regs) ⊎ ((done ≡ budget) ⊎ (capacityOf journal ≤ depth)) → capacityOf journal ≤ depth
       go (inl p) = absurd (omega arith)
       go (inr (inl e)) = absurd (more e)
       go (inr (inr q)) = q
 
-  refuses : (done ≡ budget → ⊥) → (e f : Bool) → leb firstSpecial (pcOf regs) ≡ e → leb (length cells) (pcOf regs) ≡ f
-      → (n : ℕ) → stopAt (plainly (cond e 1 (cond f 4 7))) done held ≡ runFrom (suc n) done held
-  refuses more true f p q n = refused-run n done held 1 (at-end held (leb-true firstSpecial (pcOf regs) p))
-  refuses more false true p q n = refused-run n done held 4 (off-cells held (leb-false firstSpecial (pcOf regs) p) (leb-true (length cells) (pcOf regs) q))
+  refuses : (done ≡ budget → ⊥) → (e f : Bool) → leb firstSpecial (pcOf regs) ≡ e → leb limit (pcOf regs) ≡ f
+      → (n : ℕ) → stopAt (plainly (cond e 1 (cond f (outside kind) 7))) done held ≡ runFrom kind (suc n) done held
+  refuses more true f p q n = refused-run kind n done held 1 (at-end kind held (leb-true firstSpecial (pcOf regs) p))
+  refuses more false true p q n = refused-run kind n done held (outside kind) (off-code kind held (leb-false firstSpecial (pcOf regs) p) (rw (code-is kind held) (leb-true limit (pcOf regs) q)))
   refuses more false false p q n =
-      let within = leb-false (length cells) (pcOf regs) q in
-      refused-run n done held 7 (full held (leb-false firstSpecial (pcOf regs) p) within (filled more within))
+      let within = leb-false limit (pcOf regs) q in
+      refused-run kind n done held 7 (full kind held (leb-false firstSpecial (pcOf regs) p) (rw (code-is kind held) within) (filled more within))
 
   rests : (t : Bool) → eqb done budget ≡ t
-      → stopAt (plainly (cond t 0 (cond (endedOf regs) 1 (cond (leb (length cells) (pcOf regs)) 4 7)))) done held ≡ runFrom (budget - done) done held
+      → stopAt (plainly (cond t 0 (cond (endedOf regs) 1 (cond (leb limit (pcOf regs)) (outside kind) 7)))) done held ≡ runFrom kind (budget - done) done held
   unfolding runFrom
   rests true h = let z : budget - done ≡ 0 = omega (arith, eqb-true done budget h) in rw z
   rests false h =
       let more : done ≡ budget → ⊥ = eqb-false done budget h in
       let z : budget - done ≡ suc (budget - done - 1) = omega arith in
-      rw z (refuses more (endedOf regs) (leb (length cells) (pcOf regs)) refl refl (budget - done - 1))
+      rw z (refuses more (endedOf regs) (leb limit (pcOf regs)) refl refl (budget - done - 1))
 
-  pub finishes : stopAt (plainly (numberOf done budget (length cells) (pcOf regs))) done (finalOf done regs s depth cells journal)
-      ≡ resumeOf (budget - done) done regs s depth cells journal
+  pub finishes : stopAt (plainly (numberOf kind done budget limit (pcOf regs))) done (finalOf done regs s depth cells journal)
+      ≡ resumeOf kind (budget - done) done regs s depth cells journal
   unfolding resumeOf
   finishes = go (endsBy done (pcOf regs))
     where
       go : (t : Bool)
-          → stopAt (plainly (cond t 1 (cond (eqb done budget) 0 (cond (endedOf regs) 1 (cond (leb (length cells) (pcOf regs)) 4 7))))) done
+          → stopAt (plainly (cond t 1 (cond (eqb done budget) 0 (cond (endedOf regs) 1 (cond (leb limit (pcOf regs)) (outside kind) 7))))) done
           (stateWith regs (settledOf t (unpackedOf s)) depth cells journal)
-          ≡ cond t (stopAt (plainly 1) done (stateWith regs (settledOf t (unpackedOf s)) depth cells journal)) (runFrom (budget - done) done held)
+          ≡ cond t (stopAt (plainly 1) done (stateWith regs (settledOf t (unpackedOf s)) depth cells journal)) (runFrom kind (budget - done) done held)
       go true = refl
       go false = rests (eqb done budget) refl

@@ -4,7 +4,7 @@ use Prim.Native.Nat.{ℕ, _+_, _-_, _<_}
 use mathlib.Core.Path.{_≡_, refl, _∙_}
 use mathlib.Core.Bool.{Bool, true, false, cond}
 use mathlib.Core.List.{List}
-use mathlib.Core.Option.{Option, none, some}
+use mathlib.Core.Option.{Option, none, some, orElse}
 use mathlib.Core.Logic.{_⊎_, inl, inr}
 use native.Mathlib.Omega.{arith}
 use lib.Dec.{leb, ltb, eqb}
@@ -13,7 +13,8 @@ use borrow.Author.Tests.{lt-ltb, ne-eqb, eqb-true, lt-leb}
 use borrow.Rule.Slice.PartMut.{midOf, putMid, put-same}
 use Rattle.cell.specs.Cell.{opcodeOf, nOf, immOf, decodeOf}
 use Rattle.machine.specs.State.{State, capacityOf, firstSpecial, pcOf, InRange}
-use Rattle.machine.specs.Stops.{Said, plainly}
+use Rattle.machine.specs.declared.Kind.{Kind}
+use Rattle.machine.specs.Stops.{Said, plainly, interrupted}
 use Rattle.machine.proofs.Tests.{picked}
 use Rattle.packed.specs.Packed.{packedOf, unpackedOf}
 use Rattle.packed.proofs.Laws.{unpacked-packed}
@@ -30,16 +31,17 @@ use Rattle.journal.specs.Words.{startOf}
 use Rattle.journal.specs.Journal.{entryOf, regsAfter, settingsAfter, endedOf}
 use Rattle.journal.proofs.Room.{entered-whole}
 use Rattle.journal.proofs.Undo.{length-regs}
-use Rattle.step.specs.Step.{going, stopped, effectIn, refusalOf, trapsOf, courseOf, stepOf}
+use Rattle.step.specs.Step.{codeOf, guardOf, going, stopped, effectIn, refusalOf, trapsOf, courseOf, stepOf}
 use Rattle.step.proofs.Steps.{refused-with, done-with, looked-at}
 use Rattle.carried.specs.Left.{Left, left, leftOf, doneBy, before, toldBy, toldInt, toldFault, toldRefused}
 use Rattle.carried.proofs.Operand.{read}
-use Rattle.forward.specs.Inner.{heldOf, refusalBy, courseBy, movedBy}
+use Rattle.forward.specs.Inner.{heldOf, refusalBy, courseBy, movedBy, guardedOf, storesBelow}
+use Rattle.forward.proofs.Guard.{passes, caught}
 use Rattle.forward.proofs.Told.{plain, five-or-six}
 
 -- a step, from what it left, with the journal that it left
-pub record Goes (st : State) (cell : ℕ) (journal : List ℕ) (l : Left) : Type 0 where
-  pub step : movedBy (l .told) (l .regs) (l .settings) cell (st .depth) (l .cells) journal ≡ stepOf st
+pub record Goes (kind : Kind) (st : State) (cell : ℕ) (journal : List ℕ) (l : Left) : Type 0 where
+  pub step : movedBy (l .told) (l .regs) (l .settings) cell (st .depth) (l .cells) journal ≡ stepOf kind st
   pub settled : InRange (unpackedOf (l .settings))
   pub long : length (l .regs) ≡ 256
 
@@ -79,7 +81,7 @@ module _ (st : State) (cell : ℕ) (long : length (st .regs) ≡ 256) (range : I
   unfolding courseOf effectOf regsAfter
   tells true h =
       let i = int cell (eqb-true (opcodeOf cell) 122 h) in
-      let said : Said = record { number = 3; value = operandOf (st .regs) (nOf cell); imm = immOf cell } in
+      let said : Said = interrupted (operandOf (st .regs) (nOf cell)) (immOf cell) in
       record {
         course = rw (i, read (st .regs) long (nOf cell)) (stops-by (leb firstSpecial (pcOf (set (st .regs) 255 (nextOf (st .regs))))) (plainly 1) said);
         low = rw i (omega arith);
@@ -91,8 +93,8 @@ module _ (st : State) (cell : ℕ) (long : length (st .regs) ≡ 256) (range : I
         low = rw (p .answer, raised-told) (omega (arith, p .raised));
       }
 
-module _ (regs cells journal : List ℕ) (s depth at cell : ℕ) (settled : InRange (unpackedOf s)) (long : length regs ≡ 256)
-    (on : pcOf regs < firstSpecial) (within : pcOf regs < length cells) (fetched : cell ≡ getD cells (pcOf regs) 0)
+module _ (kind : Kind) (regs cells journal : List ℕ) (s depth at cell : ℕ) (settled : InRange (unpackedOf s)) (long : length regs ≡ 256)
+    (on : pcOf regs < firstSpecial) (within : pcOf regs < codeOf kind (heldOf regs s depth cells journal)) (fetched : cell ≡ getD cells (pcOf regs) 0)
     (space : depth < capacityOf journal) (place : at ≡ startOf depth) where
   abbrev held : State
   held = heldOf regs s depth cells journal
@@ -107,40 +109,48 @@ module _ (regs cells journal : List ℕ) (s depth at cell : ℕ) (settled : InRa
   abbrev whole : List ℕ → List ℕ
   whole p = putMid at (at + 8 - at) journal p
 
-  refusal : refusalOf held ≡ refusedBy action held
-  refusal = rw fetched (looked-at held on within space)
+  looked : refusalOf kind held ≡ orElse (refusedBy action held) (guardOf kind action held)
+  looked = rw fetched (looked-at kind held on within space)
+
+  -- a store into the code
+  pub overwrites : storesBelow (guardedOf kind) (length cells) regs cell ≡ true → refusalOf kind held ≡ some 61
+  overwrites h = looked ∙ caught held cell kind h
 
   effect-is : effectIn held ≡ effectOf action held
   unfolding effectIn
   effect-is = rw fetched
 
   abbrev Stepped : Left → Type 0
-  Stepped l = Goes held cell (whole (l .part)) l
+  Stepped l = Goes kind held cell (whole (l .part)) l
 
-  done : refusedBy action held ≡ none → Stepped (doneBy 0 (effectOf action held) (before regs s cells part))
-  unfolding movedBy settingsAfter
-  done n =
-      let e = effectOf action held in
-      let range : InRange (e .settings) = safe held action n .settings settled in
-      let t = tells held cell long range (eqb (opcodeOf cell) 122) refl in
-      record {
-        step = rw (← done-with held e (refusal ∙ n) effect-is, lt-ltb (toldBy 0 (e .answer) (e .raised)) toldFault (t .low), t .course, unpacked-packed (e .settings) range, place, entered-whole journal depth space (entryOf e regs (unpackedOf s) cells));
-        settled = rw (unpacked-packed (e .settings) range) range;
-        long = length-regs e regs ∙ long;
-      }
+  module _ (free : storesBelow (guardedOf kind) (length cells) regs cell ≡ false) where
+    refusal : refusalOf kind held ≡ refusedBy action held
+    refusal = looked ∙ passes held cell kind free
 
-  refused-at : (k : ℕ) → refusedBy action held ≡ some k → (k ≡ 5) ⊎ (k ≡ 6) → Stepped (left regs cells part (packedOf (unpackedOf s)) (toldRefused k))
-  unfolding movedBy
-  refused-at k n o = record {
-    step = rw (← refused-with held k (refusal ∙ n), refused-told k o .0, refused-told k o .1, unpacked-packed (unpackedOf s) settled, put-same at (at + 8 - at) journal);
-    settled = rw (unpacked-packed (unpackedOf s) settled) settled;
-    long = long;
-  }
+    done : refusedBy action held ≡ none → Stepped (doneBy 0 (effectOf action held) (before regs s cells part))
+    unfolding movedBy settingsAfter
+    done n =
+        let e = effectOf action held in
+        let range : InRange (e .settings) = safe held action n .settings settled in
+        let t = tells held cell long range (eqb (opcodeOf cell) 122) refl in
+        record {
+          step = rw (← done-with kind held e (refusal ∙ n) effect-is, lt-ltb (toldBy 0 (e .answer) (e .raised)) toldFault (t .low), t .course, unpacked-packed (e .settings) range, place, entered-whole journal depth space (entryOf e regs (unpackedOf s) cells));
+          settled = rw (unpacked-packed (e .settings) range) range;
+          long = length-regs e regs ∙ long;
+        }
 
-  became : (o : Option ℕ) → refusedBy action held ≡ o → Stepped (leftOf 0 action (before regs s cells part))
-  unfolding leftOf becameOf
-  became none n = rw (refusal-blind held 0 part action, effect-blind held 0 part action, n) (done n)
-  became (some k) n = rw (refusal-blind held 0 part action, n) (refused-at k n (five-or-six held action k n))
+    refused-at : (k : ℕ) → refusedBy action held ≡ some k → (k ≡ 5) ⊎ (k ≡ 6) → Stepped (left regs cells part (packedOf (unpackedOf s)) (toldRefused k))
+    unfolding movedBy
+    refused-at k n o = record {
+      step = rw (← refused-with kind held k (refusal ∙ n), refused-told k o .0, refused-told k o .1, unpacked-packed (unpackedOf s) settled, put-same at (at + 8 - at) journal);
+      settled = rw (unpacked-packed (unpackedOf s) settled) settled;
+      long = long;
+    }
 
-  pub stepped : (l : Left) → l ≡ leftOf 0 action (before regs s cells part) → Stepped l
-  stepped l e = rw e (became (refusedBy action held) refl)
+    became : (o : Option ℕ) → refusedBy action held ≡ o → Stepped (leftOf 0 action (before regs s cells part))
+    unfolding leftOf becameOf
+    became none n = rw (refusal-blind held 0 part action, effect-blind held 0 part action, n) (done n)
+    became (some k) n = rw (refusal-blind held 0 part action, n) (refused-at k n (five-or-six held action k n))
+
+    pub stepped : (l : Left) → l ≡ leftOf 0 action (before regs s cells part) → Stepped l
+    stepped l e = rw e (became (refusedBy action held) refl)

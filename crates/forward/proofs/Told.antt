@@ -8,22 +8,18 @@ use mathlib.Core.Logic.{_⊎_, inl, inr}
 use native.Mathlib.Omega.{arith}
 use lib.Dec.{eqb}
 use lib.ListN.{length}
-use Rattle.word.specs.Operation.{Asked, Given, Turned, Other}
-use Rattle.word.specs.Word.{askedOf}
 use Rattle.word.proofs.Bounds.{raised-below}
-use Rattle.cell.specs.declared.Instruction.the-variants.{Registers, Immediate, Reserved}
-use Rattle.cell.specs.declared.Form.{Form}
-use Rattle.cell.specs.declared.Form.the-variants as form
-use Rattle.cell.specs.Cell.{opcodeOf, formOf, readAs, decodeOf}
+use Rattle.cell.specs.Cell.{opcodeOf, decodeOf}
 use Rattle.cell.proofs.Tests.{never}
 use Rattle.machine.specs.Addresses.{maskAddress, modeAddress}
 use Rattle.machine.specs.State.{State, flagsBound}
 use Rattle.machine.proofs.Tests.{picked}
-use Rattle.effect.specs.Action.{Value, Action, Cpswp, Ldst, Put, Operate, Split, Bz, Int, Float, Illegal, operation, floats, actionOf}
+use Rattle.effect.specs.Action.{Action, Cpswp, Ldst, Put, Operate, Split, Bz, Int, Float, Illegal, actionOf}
 use Rattle.effect.specs.Operands.{reg, valueOf, behind}
 use Rattle.effect.specs.Parts.{Onward, Effect, still, store, load}
 use Rattle.effect.specs.Effect.{illegalLoad, illegalStore, effectOf}
 use Rattle.effect.specs.Refusal.{refusedBy, faults}
+use Rattle.effect.proofs.Rows.{by-rows}
 
 -- 122 alone is INT
 abbrev interrupts : Action → Bool
@@ -40,30 +36,18 @@ interrupts Illegal = false
 abbrev Quiet : Action → Type 0
 Quiet a = interrupts a ≡ false
 
-operated : (a : Asked) (n : ℕ) (x y : Value) → Quiet (operation a n x y)
-operated (Given op) n x y = refl
-operated (Turned op) n x y = refl
-operated Other n x y = refl
-
-read : (f : Form) (c : ℕ) → eqb (opcodeOf c) 122 ≡ false → Quiet (actionOf (readAs f c))
-unfolding actionOf
-read form.Registers c h =
-    let x = opcodeOf c in
-    picked Quiet (eqb x 0) _ _ (λ t. refl) (λ t.
-    picked Quiet (eqb x 1) _ _ (λ t. refl) (λ t.
-    picked Quiet (eqb x 54) _ _ (λ t. refl) (λ t.
-    picked Quiet (eqb x 107) _ _ (λ t. refl) (λ t.
-    picked Quiet (floats x) _ _ (λ t. refl) (λ t. operated (askedOf x) _ _ _)))))
-read form.Immediate c h =
-    let x = opcodeOf c in
-    picked Quiet (eqb x 3) _ _ (λ t. refl) (λ t.
-    picked Quiet (eqb x 4) _ _ (λ t. refl) (λ t.
-    picked Quiet (eqb x 5) _ _ (λ t. refl) (λ t.
-    picked Quiet (eqb x 6) _ _ (λ t. refl) (λ t.
-    picked Quiet (eqb x 7) _ _ (λ t. refl) (λ t.
-    picked Quiet (eqb x 121) _ _ (λ t. refl) (λ t.
-    rw h (picked Quiet (floats x) _ _ (λ t. refl) (λ t. operated (askedOf x) _ _ _))))))))
-read form.Reserved c h = refl
+quiet : (c : ℕ) → eqb (opcodeOf c) 122 ≡ false → Quiet (actionOf (decodeOf c))
+quiet c h = by-rows Quiet c (record {
+  cpswp = refl;
+  ldst = λ t. refl;
+  put = λ n v. refl;
+  operate = λ op n v w. refl;
+  split = λ e. refl;
+  bz = refl;
+  int = λ t. never (cc);
+  float = refl;
+  illegal = refl;
+})
 
 -- neither an answer nor a flag past the bound
 pub record Plain (e : Effect) : Type 0 where
@@ -98,8 +82,7 @@ module _ (s : State) where
   plain-by Illegal q = record { answer = refl; raised = omega arith }
 
   pub plain : (c : ℕ) → eqb (opcodeOf c) 122 ≡ false → Plain (effectOf (actionOf (decodeOf c)) s)
-  unfolding decodeOf
-  plain c h = plain-by _ (read (formOf (opcodeOf c)) c h)
+  plain c h = plain-by _ (quiet c h)
 
   pub five-or-six : (a : Action) (k : ℕ) → refusedBy a s ≡ some k → (k ≡ 5) ⊎ (k ≡ 6)
   unfolding refusedBy

@@ -1,16 +1,20 @@
 -- What only the contracts of private functions cite: a step from what it told and left, and a run whose flag 256 is still to be set.
-use Prim.Native.Nat.{ℕ, _+_}
+use Prim.Native.Nat.{ℕ, _+_, min}
 use mathlib.Core.Bool.{Bool, cond, not, _&&_, _||_}
 use mathlib.Core.List.{List}
 use lib.Bits.{bitAnd}
 use lib.Dec.{leb, ltb, eqb}
 use lib.ListN.{getD}
-use Rattle.cell.specs.Cell.{nOf, immOf}
+use Rattle.cell.specs.Cell.{opcodeOf, nOf, mOf, lOf, immOf}
 use Rattle.machine.specs.State.{State, stateWith, firstSpecial, pcOf}
-use Rattle.machine.specs.Stops.{Said, plainly}
+use Rattle.machine.specs.Stops.{Said, plainly, interrupted}
+use Rattle.machine.specs.declared.Kind.{Kind}
+use Rattle.machine.specs.declared.Kind.the-variants.{Plain, Profile}
+use Rattle.effect.specs.Operands.{operandOf}
+use Rattle.effect.specs.Refusal.{faults}
 use Rattle.packed.specs.Packed.{unpackedOf}
 use Rattle.journal.specs.Journal.{endedOf, settledOf}
-use Rattle.step.specs.Step.{Course, going, stopped, refused, Moved}
+use Rattle.step.specs.Step.{outside, Course, going, stopped, refused, Moved}
 use Rattle.call.specs.Calls.{Out, stopAt, goOn, runFrom}
 use Rattle.carried.specs.Left.{toldInt, toldFault}
 
@@ -34,7 +38,7 @@ refusalBy told = plainly (cond (eqb told toldFault) 5 6)
 abbrev pub stopAfter : ℕ → List ℕ → ℕ → Said
 stopAfter told regs cell =
     cond (endedOf regs) (plainly 1)
-    (cond (eqb told toldInt) (record { number = 3; value = getD regs (nOf cell) 0; imm = immOf cell }) (plainly 2))
+    (cond (eqb told toldInt) (interrupted (getD regs (nOf cell) 0) (immOf cell)) (plainly 2))
 
 -- what becomes of a step that is done
 abbrev pub courseBy : ℕ → List ℕ → ℕ → ℕ → Course
@@ -59,14 +63,31 @@ abbrev pub finalOf : ℕ → List ℕ → ℕ → ℕ → List ℕ → List ℕ 
 finalOf done regs s depth cells journal = stateWith regs (settledOf (endsBy done (pcOf regs)) (unpackedOf s)) depth cells journal
 
 -- k steps are done: the run has ended with the last of them, or n steps more
-unfoldable pub resumeOf : ℕ → ℕ → List ℕ → ℕ → ℕ → List ℕ → List ℕ → Out
-resumeOf n k regs s depth cells journal =
-    cond (endsBy k (pcOf regs)) (stopAt (plainly 1) k (finalOf k regs s depth cells journal)) (runFrom n k (heldOf regs s depth cells journal))
+unfoldable pub resumeOf : Kind → ℕ → ℕ → List ℕ → ℕ → ℕ → List ℕ → List ℕ → Out
+resumeOf kind n k regs s depth cells journal =
+    cond (endsBy k (pcOf regs)) (stopAt (plainly 1) k (finalOf k regs s depth cells journal)) (runFrom kind n k (heldOf regs s depth cells journal))
+
+-- how many cells a run may fetch from, of so many
+abbrev pub limitOf : Kind → ℕ → ℕ
+limitOf Plain size = size
+limitOf (Profile l) size = min l size
 
 -- the stop's number of a run that no step stopped
-abbrev pub numberOf : ℕ → ℕ → ℕ → ℕ → ℕ
-numberOf done budget size pc =
+abbrev pub numberOf : Kind → ℕ → ℕ → ℕ → ℕ → ℕ
+numberOf kind done budget limit pc =
     cond (endsBy done pc) 1
     (cond (eqb done budget) 0
     (cond (leb firstSpecial pc) 1
-    (cond (leb size pc) 4 7)))
+    (cond (leb limit pc) (outside kind) 7)))
+
+-- how many cells a run may not store to
+abbrev pub guardedOf : Kind → ℕ
+guardedOf Plain = 0
+guardedOf (Profile l) = l
+
+-- the cell is an LDST that stores below the guard, and neither of its pointers faults
+unfoldable pub storesBelow : ℕ → ℕ → List ℕ → ℕ → Bool
+storesBelow guard size regs cell =
+    eqb (opcodeOf cell) 1
+    && (leb 1 (operandOf regs (mOf cell)) && ltb (operandOf regs (mOf cell)) guard)
+    && not (faults size (operandOf regs (lOf cell)) || faults size (operandOf regs (mOf cell)))

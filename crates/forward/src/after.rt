@@ -9,14 +9,16 @@ ghost use Rattle.machine.specs.State.{State, capacityOf, pcOf};
 ghost use Rattle.machine.specs.Stops.{saidOf, plainly};
 ghost use Rattle.packed.specs.Packed.{unpackedOf};
 ghost use Rattle.journal.specs.Journal.{settledOf};
-ghost use Rattle.call.specs.Calls.{Out};
+ghost use Rattle.step.specs.Step.{outside};
+ghost use Rattle.call.specs.Calls.{Out, stopAt};
 ghost use Rattle.call.specs.Answers.{outOf};
-ghost use Rattle.forward.specs.Inner.{stopping, refusalBy, stopAfter, movedBy, goOnBy, resumeOf, numberOf};
+ghost use Rattle.forward.specs.Inner.{heldOf, stopping, refusalBy, stopAfter, movedBy, goOnBy, limitOf, resumeOf, numberOf};
 use call::Ran;
 use carried::Told;
 use cell::imm_of;
 use cell::n_of;
 use machine::Address;
+use machine::Kind;
 use machine::Machine;
 use machine::Settings;
 use machine::Stop;
@@ -76,22 +78,30 @@ fn after(regs: &[u32; 256], told: u32, cell: u32) -> Stop
     Stop::Trap
 }
 
+// What a run leaves whose next step is refused.
+pub(crate) fn refused(regs: &[u32; 256], s: u32, depth: u32, done: u32, stop: Stop) -> Ran
+    requires { ⌜ depth + done < 65536 ⌝ }
+    ensures { λ r. ⌜ ((cells journal : List ℕ) → outOf r cells journal ≡ stopAt (saidOf stop) done (heldOf (now (regs .entry)) s (depth + done) cells journal)) ⌝ }
+{
+    let machine = Machine {
+        regs: *regs,
+        settings: unpack(s),
+        depth: depth + done,
+    };
+    Ran {
+        machine,
+        stop,
+        count: done as u64,
+    }
+}
+
 // What a run leaves that a step stopped, done or refused.
 pub(crate) fn halt(regs: &[u32; 256], s: u32, depth: u32, done: u32, told: u32, cell: u32) -> Ran
     requires { ⌜ (depth + done < 65536) × (stopping told s ≡ true) ⌝ }
     ensures { λ r. ⌜ ((rest : ℕ → State → Out) (cells journal : List ℕ) → outOf r cells journal ≡ goOnBy rest done (movedBy told (now (regs .entry)) s cell (depth + done) cells journal)) ⌝ }
 {
     if Told::FAULT <= told {
-        let machine = Machine {
-            regs: *regs,
-            settings: unpack(s),
-            depth: depth + done,
-        };
-        return Ran {
-            machine,
-            stop: refusal(told),
-            count: done as u64,
-        };
+        return refused(regs, s, depth, done, refusal(told));
     }
     let machine = Machine {
         regs: *regs,
@@ -105,9 +115,19 @@ pub(crate) fn halt(regs: &[u32; 256], s: u32, depth: u32, done: u32, told: u32, 
     }
 }
 
+// The stop of a PC that is past the cells that a run may fetch from and has not ended.
+fn stop_outside(kind: Kind) -> Stop
+    ensures { λ r. ⌜ saidOf r ≡ plainly (outside kind) ⌝ }
+{
+    match kind {
+        Kind::Plain => Stop::Fetch,
+        Kind::Profile(_) => Stop::Outside,
+    }
+}
+
 // How a run stopped that no step stopped.
-fn stop_of(pc: u32, size: usize, done: u64, budget: u64) -> Stop
-    ensures { λ r. ⌜ saidOf r ≡ plainly (numberOf done budget size pc) ⌝ }
+fn stop_of(pc: u32, kind: Kind, limit: usize, done: u64, budget: u64) -> Stop
+    ensures { λ r. ⌜ saidOf r ≡ plainly (numberOf kind done budget limit pc) ⌝ }
 {
     if (0 < done) & (Address::FLAGS <= pc) {
         return Stop::Ended;
@@ -118,25 +138,26 @@ fn stop_of(pc: u32, size: usize, done: u64, budget: u64) -> Stop
     if Address::FLAGS <= pc {
         return Stop::Ended;
     }
-    if size <= pc as usize {
-        return Stop::Fetch;
+    if limit <= pc as usize {
+        return stop_outside(kind);
     }
     Stop::Full
 }
 
-// What a run leaves that no step stopped: PC is off the cells, the budget is done, or the journal is full.
+// What a run leaves that no step stopped: PC is outside the code, the budget is done, or the journal is full.
 pub(crate) fn finish(
     regs: &[u32; 256],
-    size: usize,
+    kind: Kind,
+    limit: usize,
     s: u32,
     depth: u32,
     done: u32,
     budget: u64,
 ) -> Ran
     requires { ⌜ (depth + done ≤ 65536) × (done ≤ budget) ⌝ }
-    ensures { λ r. ⌜ ((cells journal : List ℕ) → size ≡ length cells
-        → (length cells ≤ pcOf (now (regs .entry))) ⊎ ((done ≡ budget) ⊎ (capacityOf journal ≤ depth + done))
-        → outOf r cells journal ≡ resumeOf (budget - done) done (now (regs .entry)) s (depth + done) cells journal) ⌝ }
+    ensures { λ r. ⌜ ((cells journal : List ℕ) → limit ≡ limitOf kind (length cells)
+        → (limit ≤ pcOf (now (regs .entry))) ⊎ ((done ≡ budget) ⊎ (capacityOf journal ≤ depth + done))
+        → outOf r cells journal ≡ resumeOf kind (budget - done) done (now (regs .entry)) s (depth + done) cells journal) ⌝ }
 {
     let pc = regs[255];
     let machine = Machine {
@@ -146,7 +167,7 @@ pub(crate) fn finish(
     };
     Ran {
         machine,
-        stop: stop_of(pc, size, done as u64, budget),
+        stop: stop_of(pc, kind, limit, done as u64, budget),
         count: done as u64,
     }
 }

@@ -4,6 +4,7 @@ use mathlib.Core.List.{List}
 use Prim.Native.Nat.{ℕ, _<_, _≤_}
 use borrow.Author.Tests.{lt-ltb, le-ltb}
 use lib.ListN.{length}
+use Rattle.machine.specs.declared.Kind.the-variants.{Plain}
 use Rattle.machine.specs.State.{stateOf}
 use Rattle.call.specs.Calls.{runOf}
 use Rattle.job.specs.declared.Loaded.{Loaded}
@@ -26,6 +27,6 @@ module _ (input cells journal : List ℕ) where
     unfolding outcomeOf
     outcome-refused why offset a = rw (le-ltb mostInput (length input) h, ← e, a, numbered why)
 
-    pub outcome-ran : l .answer ≡ Done → outcomeOf input cells journal ≡ ranTo (runOf budget (stateOf (l .machine) left journal))
+    pub outcome-ran : l .answer ≡ Done → outcomeOf input cells journal ≡ ranTo (runOf Plain budget (stateOf (l .machine) left journal))
     unfolding outcomeOf
     outcome-ran a = rw (le-ltb mostInput (length input) h, ← e, a)

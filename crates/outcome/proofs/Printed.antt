@@ -1,6 +1,7 @@
 -- What document 01 says that `runjob` prints, by computation.
 use mathlib.Core.Path.{_≡_, refl}
 use mathlib.Core.List.{[]}
+use mathlib.Core.Option.{orElse}
 use Rattle.half.specs.Half.{seOf, exOf}
 use Rattle.word.specs.Word.{writtenOf, opOf, askedOf}
 use Rattle.cell.specs.Cell.{legal, immediate, formOf, decodeOf}
@@ -25,5 +26,5 @@ unfolding digits decimal fateOf refusalFrom refusalIn outcomeOf textOf
 empty-input = refl
 
 pub printed-job : textOf printedJob ≡ bytes "exit 1 steps 3 pc 4294901763 flags 256\nR1 5\n"
-unfolding seOf exOf writtenOf opOf askedOf legal immediate formOf decodeOf digits decimal actionOf operandOf behind flagsOf effectOf refusedBy capacityOf entriesIn freshMachine regsAfter cellsAfter settingsAfter entryOf refusalOf effectIn courseOf stepOf runFrom checkOf littleOf numberAt kindBy wordsOf inOrder fateOf refusalFrom contentFrom refusalIn registersText ranText outcomeOf textOf printedJob
+unfolding orElse seOf exOf writtenOf opOf askedOf legal immediate formOf decodeOf digits decimal actionOf operandOf behind flagsOf effectOf refusedBy capacityOf entriesIn freshMachine regsAfter cellsAfter settingsAfter entryOf refusalOf effectIn courseOf stepOf runFrom checkOf littleOf numberAt kindBy wordsOf inOrder fateOf refusalFrom contentFrom refusalIn registersText ranText outcomeOf textOf printedJob
 printed-job = refl

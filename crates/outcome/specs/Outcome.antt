@@ -5,6 +5,7 @@ use Prim.Native.Nat.{ℕ}
 use lib.Dec.{ltb, eqb}
 use lib.ListN.{length}
 use Rattle.machine.specs.declared.Machine.{Machine}
+use Rattle.machine.specs.declared.Kind.the-variants.{Plain}
 use Rattle.machine.specs.State.{freshMachine, stateOf}
 use Rattle.machine.specs.Stops.{Said}
 use Rattle.call.specs.Calls.{Out, runOf}
@@ -50,7 +51,7 @@ ranTo o = record {
 -- a job that a load refuses is refused; else it is run
 abbrev pub loadedTo : Load → List ℕ → Outcome
 loadedTo l journal =
-    cond (eqb (l .said .number) 0) (ranTo (runOf budget (stateOf (l .machine) (l .cells) journal)))
+    cond (eqb (l .said .number) 0) (ranTo (runOf Plain budget (stateOf (l .machine) (l .cells) journal)))
     (refusedTo (l .said .number) (l .said .offset) (l .cells) journal)
 
 -- a longer input is refused with 50 at 32768, whatever it holds

@@ -16,15 +16,17 @@ use machine::Machine;
 use machine::Stop;
 use std::num::wrapping_add_usize;
 
-// Writes a stop's number, and the values of an INT.
+// Writes a stop's number, the values of an INT, and the place of a rule's bad cell.
 fn put_stop(stop: Stop) {
     tell(b"stop ", stop.number());
     match stop {
         Stop::Int { value, imm } => {
             tell(b" value ", value as u64);
-            tell(b" imm ", imm as u64)
+            tell(b" imm ", imm as u64);
+            say(b" place 0")
         }
-        _ => say(b" value 0 imm 0"),
+        Stop::Barred { place } => tell(b" value 0 imm 0 place ", place as u64),
+        _ => say(b" value 0 imm 0 place 0"),
     }
 }
 
@@ -41,15 +43,30 @@ fn put_ran(ran: Ran, cells: &[u32], journal: &[u32]) {
     tell_line(b" journal ", digest(journal));
 }
 
-// One call by its kind: 0 step, 1 run, else back.
-fn call(m: Machine, cells: &mut [u32], journal: &mut [u32], kind: u8, number: u64) -> Ran {
+// One call by its kind: 0 step, 1 run, 3 profile run, else back.
+fn call(
+    m: Machine,
+    cells: &mut [u32],
+    journal: &mut [u32],
+    kind: u8,
+    number: u64,
+    l: usize,
+) -> Ran {
     if kind == 0 {
         return forward::step(m, cells, journal);
     }
     if kind == 1 {
         return forward::run(m, cells, journal, number);
     }
+    if kind == 3 {
+        return forward::profile_run(m, cells, journal, l, number);
+    }
     backward::back(m, cells, journal, number)
+}
+
+// How many bytes a call of a kind has: a profile run has its L besides.
+fn size_of(kind: u8) -> usize {
+    if kind == 3 { 13 } else { 9 }
 }
 
 // Makes the calls that stand at a place of a payload, their count first, and writes a line for each.
@@ -58,11 +75,13 @@ fn put_each(payload: &[u8], at: usize, m: Machine, cells: &mut [u32], journal: &
     let mut left = half_at(payload, at);
     let mut from = wrapping_add_usize(at, 2);
     while 0 < left {
+        let kind = byte_at(payload, from);
         let number = long_at(payload, wrapping_add_usize(from, 1));
-        let ran = call(state, cells, journal, byte_at(payload, from), number);
+        let l = word_at(payload, wrapping_add_usize(from, 9)) as usize;
+        let ran = call(state, cells, journal, kind, number, l);
         put_ran(ran, cells, journal);
         state = ran.machine;
-        from = wrapping_add_usize(from, 9);
+        from = wrapping_add_usize(from, size_of(kind));
         left -= 1;
     }
 }

@@ -8,6 +8,7 @@ mod lines;
 mod machines;
 mod out;
 mod payload;
+mod rules;
 
 use calls::put_calls;
 use jobs::put_described;
@@ -23,6 +24,7 @@ use lines::put_read;
 use out::tell;
 use out::tell_line;
 use payload::word_at;
+use rules::put_rule;
 
 // Writes what an answer has after its first line: nothing for a kind that is none.
 fn put_rest(kind: u8, payload: &[u8]) {
@@ -36,6 +38,7 @@ fn put_rest(kind: u8, payload: &[u8]) {
         7 => put_run(payload),
         8 => put_saving(payload),
         9 => put_described(payload),
+        10 => put_rule(payload),
         _ => {}
     }
 }

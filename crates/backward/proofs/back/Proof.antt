@@ -29,11 +29,11 @@ same-length c = search needs
 
 returns : tie.Need-returns
 returns c = let a = c .before .before .before .before .before .before .before .before .before .before .args in
-    c .before .before .back-on .ensures ∙ called-fine backFrom (a .number) (stateOf (a .m) (a .cells .now) (a .journal .now)) (as-told (c .before .before .before .before .before .before .check .result) Fine _ _ _ _ _ (c .before .before .before .before .before .before .before .capacity .ensures) (search needs) (c .before .before .before .before .before .before .check .ensures))
+    c .before .before .back-on .ensures ∙ called-fine backFrom (a .number) (stateOf (a .m) (a .cells .now) (a .journal .now)) _ (as-told (c .before .before .before .before .before .before .check .result) Fine _ _ _ _ _ (c .before .before .before .before .before .before .before .capacity .ensures) (search needs) (c .before .before .before .before .before .before .check .ensures))
 
 returns-2 : tie.Need-returns-2
 returns-2 c = let a = c .before .before .before .before .before .before .before .args in
-    called-bad backFrom (a .number) (stateOf (a .m) (a .cells .now) (a .journal .now)) _ (as-told (c .before .before .before .check .result) (Bad (c .before .checked .given .0 .0)) _ _ _ _ _ (c .before .before .before .before .capacity .ensures) (search needs) (c .before .before .before .check .ensures))
+    called-bad backFrom (a .number) (stateOf (a .m) (a .cells .now) (a .journal .now)) _ _ (as-told (c .before .before .before .check .result) (Bad (c .before .checked .given .0 .0)) _ _ _ _ _ (c .before .before .before .before .capacity .ensures) (search needs) (c .before .before .before .check .ensures))
 
 pub back-spec : {M : Type 1} → statement M
 back-spec =

@@ -6,18 +6,15 @@ use borrow.Author.Needs.{needs}
 use Rattle.forward.proofs.after.halt.Statement.{statement}
 use Rattle.forward.proofs.after.halt.Tie as tie
 
-unpack-requires : tie.Need-unpack-requires
-unpack-requires c κs = search needs
-
-add-t12 : tie.Need-add-t12
-add-t12 c = search needs
-
 refusal-requires : tie.Need-refusal-requires
 refusal-requires c κs = search needs
 
+refused-requires : tie.Need-refused-requires
+refused-requires c κs = search needs
+
 returns : tie.Need-returns
 unfolding movedBy
-returns c = λ rest cells journal. rw (le-ltb _ _ (c .before .before .before .if1 .taken), c .before .unpack .ensures, c .refusal .ensures)
+returns c = λ rest cells journal. rw (le-ltb _ _ (c .before .before .if1 .taken), ← c .before .refusal .ensures) (c .refused .ensures cells journal)
 
 element-copy-out-settled : tie.Need-element-copy-out-settled
 element-copy-out-settled c = search needs
@@ -25,17 +22,17 @@ element-copy-out-settled c = search needs
 settled-requires : tie.Need-settled-requires
 settled-requires c κs = search needs
 
-add-t20 : tie.Need-add-t20
-add-t20 c = search needs
+add-t15 : tie.Need-add-t15
+add-t15 c = search needs
 
-add-t21 : tie.Need-add-t21
-add-t21 c = search needs
+add-t16 : tie.Need-add-t16
+add-t16 c = search needs
 
 after-requires : tie.Need-after-requires
 after-requires c κs = search needs
 
-add-t24 : tie.Need-add-t24
-add-t24 c = search needs
+add-t19 : tie.Need-add-t19
+add-t19 c = search needs
 
 returns-2 : tie.Need-returns-2
 unfolding movedBy
@@ -45,14 +42,13 @@ pub halt-spec : {M : Type 1} → statement M
 halt-spec =
     tie.close
     (tie.spec
-    unpack-requires
-    add-t12
     refusal-requires
+    refused-requires
     returns
     element-copy-out-settled
     settled-requires
-    add-t20
-    add-t21
+    add-t15
+    add-t16
     after-requires
-    add-t24
+    add-t19
     returns-2)

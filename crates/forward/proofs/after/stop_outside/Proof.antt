@@ -1,0 +1,20 @@
+-- `forward::after::stop_outside` meets its contract: the kind of run picks the stop.
+-- Assumes nothing.
+use borrow.Author.Needs.{needs}
+use Rattle.forward.proofs.after.stop_outside.Statement.{statement}
+use Rattle.forward.proofs.after.stop_outside.Tie as tie
+
+enum-told : tie.Need-enum-told
+enum-told c = search needs
+
+enum-told-2 : tie.Need-enum-told-2
+enum-told-2 c = search needs
+
+returns : tie.Need-returns
+returns c = rw (c .enum-told .given .1)
+
+returns-2 : tie.Need-returns-2
+returns-2 c = rw (c .enum-told2 .given .1)
+
+pub stop-outside-spec : {M : Type 1} → statement M
+stop-outside-spec = tie.close (tie.spec enum-told enum-told-2 returns returns-2)

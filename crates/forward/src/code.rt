@@ -1,0 +1,73 @@
+// What a run asks of PC and of a store before a step: a profile's code is all that it fetches from, and is not written.
+ghost use mathlib.Core.Path.{_≡_};
+ghost use Prim.Native.Nat.{_<_};
+ghost use Rattle.effect.specs.Operands.{operandOf};
+ghost use Rattle.effect.specs.Refusal.{faults};
+ghost use Rattle.forward.specs.Inner.{limitOf, guardedOf, storesBelow};
+use carried::next_of;
+use cell::l_of;
+use cell::m_of;
+use cell::opcode_of;
+use machine::Address;
+use machine::Kind;
+
+// How many cells a run may fetch from.
+pub(crate) fn limit_of(kind: Kind, size: usize) -> usize
+    ensures { λ r. ⌜ r ≡ limitOf kind size ⌝ }
+{
+    match kind {
+        Kind::Plain => size,
+        Kind::Profile(l) => {
+            if l < size {
+                return l;
+            }
+            size
+        }
+    }
+}
+
+// How many cells a run may not store to, cell 0 aside: pointer 0 is none.
+pub(crate) fn guard_of(kind: Kind) -> usize
+    ensures { λ r. ⌜ r ≡ guardedOf kind ⌝ }
+{
+    match kind {
+        Kind::Plain => 0,
+        Kind::Profile(l) => l,
+    }
+}
+
+// An operand's value; register 255 is the next PC.
+fn operand(regs: &[u32; 256], i: u32) -> u32
+    requires { ⌜ i < 256 ⌝ }
+    ensures { λ r. ⌜ r ≡ operandOf (now (regs .entry)) i ⌝ }
+{
+    if i == 255 {
+        return next_of(regs[255]);
+    }
+    regs[i as usize]
+}
+
+// Whether a pointer is past the cells and below the special addresses.
+fn is_fault(size: usize, p: u32) -> bool
+    ensures { λ r. ⌜ r ≡ faults size p ⌝ }
+{
+    (size <= p as usize) & (p < Address::FLAGS)
+}
+
+// Whether a cell stores below the guard and neither of its pointers faults, since 5 comes before 61. A plain run is done with one test.
+pub(crate) fn writes_code(regs: &[u32; 256], size: usize, cell: u32, guard: usize) -> bool
+    ensures { λ r. ⌜ r ≡ storesBelow guard size (now (regs .entry)) cell ⌝ }
+{
+    if guard == 0 {
+        return false;
+    }
+    if opcode_of(cell) != 1 {
+        return false;
+    }
+    let x = operand(regs, m_of(cell));
+    if (x == 0) | (guard <= x as usize) {
+        return false;
+    }
+    let y = operand(regs, l_of(cell));
+    !(is_fault(size, y) | is_fault(size, x))
+}
