@@ -104,12 +104,21 @@ fn arithmetic(opcode: u8, x: u32, y: u32, flags: u32, written: &mut Written) -> 
 }
 
 impl Runner {
+    /// What the register will hold when the step at PC reads it.
+    pub fn pointer(&self, register: u8) -> u32 {
+        let value = self.machine.registers[register as usize];
+        if register as usize == PC {
+            value + 1
+        } else {
+            value
+        }
+    }
+
     /// LDST at an address that is neither a cell nor special. Asked before the step is begun.
     pub fn faults(&self, cell: u32) -> bool {
         let [opcode, _, m, l] = cell.to_be_bytes();
-        let next = self.machine.registers[PC] + 1;
         let outside = |register: u8| {
-            let pointer = if register as usize == PC { next } else { self.machine.registers[register as usize] };
+            let pointer = self.pointer(register);
             pointer as usize >= self.cells.len() && pointer < END
         };
         opcode == 1 && (outside(m) || outside(l))

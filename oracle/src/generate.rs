@@ -2,9 +2,13 @@
 
 use crate::file::Trials;
 use crate::generate_calls;
+use crate::generate_checks;
+use crate::generate_forward;
 use crate::generate_instructions;
 use crate::generate_jobs;
 use crate::generate_lines;
+use crate::generate_profile;
+use crate::generate_profile_stops;
 use crate::generate_stops;
 use crate::random::Random;
 
@@ -15,11 +19,16 @@ pub fn trials(seed: u64, count: usize) -> Vec<u8> {
     generate_jobs::edges(&mut random, &mut trials);
     generate_instructions::edges(&mut random, &mut trials);
     generate_stops::edges(&mut random, &mut trials);
+    generate_checks::edges(&mut random, &mut trials);
+    generate_profile::edges(&mut random, &mut trials);
+    generate_profile_stops::edges(&mut random, &mut trials);
     while !trials.is_full() {
         match random.below(100) {
-            0..=29 => generate_lines::random(&mut random, &mut trials),
-            30..=59 => generate_jobs::random(&mut random, &mut trials),
-            _ => generate_calls::random(&mut random, &mut trials),
+            0..=24 => generate_lines::random(&mut random, &mut trials),
+            25..=49 => generate_jobs::random(&mut random, &mut trials),
+            50..=79 => generate_calls::random(&mut random, &mut trials),
+            80..=84 => generate_checks::random(&mut random, &mut trials),
+            _ => generate_forward::random(&mut random, &mut trials),
         }
     }
     trials.into_bytes()

@@ -11,9 +11,9 @@ use crate::trial::{BACK, RUN, STEP};
 pub const LONG_JOURNAL: u32 = 70_000;
 
 /// Registers with a part of their own in programs: pointers, a special address, and nothing.
-const POINTER: u8 = 9;
-const SPECIAL: u8 = 10;
-const EDGE: u8 = 11;
+pub const POINTER: u8 = 9;
+pub const SPECIAL: u8 = 10;
+pub const EDGE: u8 = 11;
 const NOTHING: u8 = 12;
 
 pub fn random(random: &mut Random, trials: &mut Trials) {

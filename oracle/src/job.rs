@@ -4,7 +4,8 @@ use crate::machine::{cells_fit, Answer, Machine, Runner, ENTRY_WORDS, HIGHEST_FL
 
 const HEAD: usize = 6;
 const MOST_INPUT: usize = 32_768;
-const RUNJOB_CELLS: usize = 4_096;
+/// The cells of `runjob` and of `check-rule`.
+pub const PROGRAM_CELLS: usize = 4_096;
 const RUNJOB_STEPS: usize = 400;
 
 /// A refusal's number and the offset it speaks of.
@@ -164,12 +165,23 @@ pub fn save(machine: &Machine, cells: &[u32], room: &mut [u8]) -> Result<usize, 
     Ok(job.len())
 }
 
+/// Loads what a program reads from its standard input.
+pub fn load_input(input: &[u8], cells: &mut [u32]) -> Result<Machine, Refused> {
+    if input.len() > MOST_INPUT {
+        return Err((50, MOST_INPUT));
+    }
+    load(input, cells)
+}
+
+pub fn refused_text((number, offset): Refused) -> String {
+    format!("refused {number} at {offset}\n")
+}
+
 /// The text that `runjob` prints, and the runner as it stopped, if it was started.
 pub fn runjob(input: &[u8]) -> (String, Option<Runner>) {
-    let mut cells = vec![0; RUNJOB_CELLS];
-    let loaded = if input.len() > MOST_INPUT { Err((50, MOST_INPUT)) } else { load(input, &mut cells) };
-    match loaded {
-        Err((number, offset)) => (format!("refused {number} at {offset}\n"), None),
+    let mut cells = vec![0; PROGRAM_CELLS];
+    match load_input(input, &mut cells) {
+        Err(refused) => (refused_text(refused), None),
         Ok(machine) => {
             let mut runner = Runner::new(machine, cells, vec![0; RUNJOB_STEPS * ENTRY_WORDS]);
             let answer = runner.run(RUNJOB_STEPS as u64);

@@ -1,4 +1,4 @@
-//! The machine, its calls (step, run, back) and its journal.
+//! The machine, its plain calls (step, run, back) and its journal.
 
 use std::collections::BTreeSet;
 
@@ -49,17 +49,20 @@ pub fn cells_fit(cells: usize) -> bool {
     (1..=MOST_CELLS).contains(&cells)
 }
 
-/// What a call answers. `value` and `imm` are an INT's and 0 for every other stop.
+/// What a call answers. `value` and `imm` are an INT's and 0 for every other stop; `place` is that of stop 60.
 #[derive(Debug, PartialEq)]
 pub struct Answer {
     pub stop: u32,
     pub value: u32,
     pub imm: u32,
+    pub place: u32,
     pub count: u64,
 }
 
-fn stop(stop: u32, count: u64) -> Answer {
-    Answer { stop, value: 0, imm: 0, count }
+impl Answer {
+    pub fn stop(stop: u32, count: u64) -> Answer {
+        Answer { stop, value: 0, imm: 0, place: 0, count }
+    }
 }
 
 /// A machine with the cells and the journal lent to it.
@@ -83,7 +86,7 @@ impl Runner {
     }
 
     /// The tests that are made once a call, before anything else.
-    fn unfit(&self) -> Option<u32> {
+    pub fn unfit(&self) -> Option<u32> {
         if !cells_fit(self.cells.len()) {
             Some(12)
         } else if !self.machine.settings_fit() {
@@ -100,69 +103,86 @@ impl Runner {
     }
 
     pub fn run(&mut self, budget: u64) -> Answer {
-        if let Some(number) = self.unfit() {
-            return stop(number, 0);
+        match self.unfit() {
+            Some(number) => Answer::stop(number, 0),
+            None => self.forward(budget, None),
         }
+    }
+
+    /// The steps of a run. A rule that only goes forward is given by its length.
+    pub fn forward(&mut self, budget: u64, rule: Option<u32>) -> Answer {
         let mut count = 0;
         loop {
             if count == budget {
-                return stop(0, count);
+                return Answer::stop(0, count);
             }
-            let pc = self.machine.registers[PC];
-            if pc >= END {
-                return stop(1, count);
+            if let Some(number) = self.hindered(rule) {
+                return Answer::stop(number, count);
             }
-            if pc as usize >= self.cells.len() {
-                return stop(4, count);
-            }
-            if self.machine.depth == self.entries() {
-                return stop(7, count);
-            }
-            let cell = self.cells[pc as usize];
-            let opcode = cell >> 24;
-            if (80..=106).contains(&opcode) {
-                return stop(6, count);
-            }
-            if self.faults(cell) {
-                return stop(5, count);
-            }
-
+            let cell = self.cells[self.machine.registers[PC] as usize];
             let raised = self.execute(cell);
             count += 1;
-            self.executed[opcode as usize] += 1;
+            self.executed[(cell >> 24) as usize] += 1;
 
             if self.machine.registers[PC] >= END {
                 self.machine.flags |= TERMINATION;
-                return stop(1, count);
+                return Answer::stop(1, count);
             }
-            if opcode == INT {
+            if cell >> 24 == INT {
                 let n = (cell >> 16) as u8;
                 let value = self.machine.registers[n as usize];
-                return Answer { stop: 3, value, imm: cell & 0xFFFF, count };
+                return Answer { value, imm: cell & 0xFFFF, ..Answer::stop(3, count) };
             }
             if raised & self.machine.mask != 0 {
-                return stop(2, count);
+                return Answer::stop(2, count);
             }
+        }
+    }
+
+    /// The stop of a step that cannot be done, in the order in which they are tested.
+    fn hindered(&self, rule: Option<u32>) -> Option<u32> {
+        let pc = self.machine.registers[PC];
+        if pc >= END {
+            return Some(1);
+        }
+        match rule {
+            Some(length) if pc >= length => return Some(62),
+            None if pc as usize >= self.cells.len() => return Some(4),
+            _ => {}
+        }
+        if self.machine.depth == self.entries() {
+            return Some(7);
+        }
+        let cell = self.cells[pc as usize];
+        if (80..=106).contains(&(cell >> 24)) {
+            return Some(6);
+        }
+        if self.faults(cell) {
+            return Some(5);
+        }
+        match rule {
+            Some(length) if self.stores_below(length, cell) => Some(61),
+            _ => None,
         }
     }
 
     pub fn back(&mut self, number: u64) -> Answer {
         if let Some(number) = self.unfit() {
-            return stop(number, 0);
+            return Answer::stop(number, 0);
         }
         let mut count = 0;
         loop {
             if count == number {
-                return stop(0, count);
+                return Answer::stop(0, count);
             }
             if self.machine.depth == 0 {
-                return stop(8, count);
+                return Answer::stop(8, count);
             }
             let at = (self.machine.depth as usize - 1) * ENTRY_WORDS;
             let mut entry = [0; ENTRY_WORDS];
             entry.copy_from_slice(&self.journal[at..at + ENTRY_WORDS]);
             if self.damaged(&entry) {
-                return stop(9, count);
+                return Answer::stop(9, count);
             }
             self.undo(&entry);
             count += 1;

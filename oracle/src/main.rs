@@ -1,18 +1,24 @@
 //! A second chip32 runner, and the trials that compare it with another one.
 
 mod cell;
+mod check_rule;
 mod execute;
 mod file;
 mod generate;
 mod generate_calls;
+mod generate_checks;
+mod generate_forward;
 mod generate_instructions;
 mod generate_jobs;
 mod generate_lines;
+mod generate_profile;
+mod generate_profile_stops;
 mod generate_stops;
 mod half;
 mod job;
 mod line;
 mod machine;
+mod profile;
 mod random;
 mod setup;
 mod table;
@@ -23,7 +29,7 @@ mod trial;
 use std::io::{self, Read, Write};
 use std::process::ExitCode;
 
-const USAGE: &str = "oracle generate SEED COUNT | answer | table | runjob | assemble";
+const USAGE: &str = "oracle generate SEED COUNT | answer | table | runjob | check-rule [L] | assemble";
 
 fn main() -> ExitCode {
     let arguments: Vec<String> = std::env::args().skip(1).collect();
@@ -33,6 +39,8 @@ fn main() -> ExitCode {
         ["answer"] => answer(),
         ["table"] => table(),
         ["runjob"] => runjob(),
+        ["check-rule"] => check_rule(None),
+        ["check-rule", length] => check_rule(Some(length)),
         ["assemble"] => assemble(),
         _ => Err(USAGE.to_string()),
     };
@@ -91,6 +99,10 @@ fn table() -> Result<(), String> {
 fn runjob() -> Result<(), String> {
     let (text, _) = job::runjob(&input()?);
     output(text.as_bytes())
+}
+
+fn check_rule(length: Option<&str>) -> Result<(), String> {
+    output(check_rule::text(length, &input()?).as_bytes())
 }
 
 /// The job whose cells from 0 on are those of the printed lines.

@@ -3,7 +3,7 @@
 use crate::file::Trials;
 use crate::machine::{ENTRY_WORDS, PC};
 use crate::random::Random;
-use crate::trial::{CALLS, SAVE};
+use crate::trial::{CALLS, PROFILE, SAVE};
 
 /// More steps than any call can do.
 pub const LONG: u64 = 1 << 40;
@@ -20,10 +20,12 @@ pub struct Setup {
     pub cells: Vec<(u32, u32)>,
     pub journal: Vec<(u32, u32)>,
     pub calls: Vec<(u8, u64)>,
+    /// The lengths of the rules that the profile runs among the calls name, in their order.
+    pub rules: Vec<u32>,
 }
 
 /// A count and settings of places.
-fn places(list: &[(u32, u32)]) -> Vec<u8> {
+pub fn places(list: &[(u32, u32)]) -> Vec<u8> {
     let mut bytes = (list.len() as u16).to_le_bytes().to_vec();
     for (place, value) in list {
         bytes.extend(place.to_le_bytes());
@@ -46,6 +48,7 @@ impl Setup {
             cells: Vec::new(),
             journal: Vec::new(),
             calls: Vec::new(),
+            rules: Vec::new(),
         }
     }
 
@@ -58,6 +61,12 @@ impl Setup {
 
     pub fn pc(&mut self, pc: u32) {
         self.registers.push((PC as u8, pc));
+    }
+
+    /// One more call: a profile run over cells 0 to length - 1.
+    pub fn profile(&mut self, length: u32, budget: u64) {
+        self.calls.push((PROFILE, budget));
+        self.rules.push(length);
     }
 
     /// Leaves something in the words that steps will write, and in those that they will not.
@@ -91,9 +100,13 @@ impl Setup {
         let mut payload = self.state();
         payload.extend(places(&self.journal));
         payload.extend((self.calls.len() as u16).to_le_bytes());
+        let mut rules = self.rules.iter();
         for (call, number) in &self.calls {
             payload.push(*call);
             payload.extend(number.to_le_bytes());
+            if *call == PROFILE {
+                payload.extend(rules.next().expect("each profile run has its rule").to_le_bytes());
+            }
         }
         trials.add(CALLS, &payload);
     }

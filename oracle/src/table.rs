@@ -1,13 +1,19 @@
-//! How often each opcode, stop, refusal and limit occurs in a file of trials, and how many halves become floats.
+//! How often each opcode, stop, finding, refusal and limit occurs in a file of trials, and how many halves become floats.
 
 use std::collections::{BTreeMap, BTreeSet};
 
 use crate::cell::opcode_of;
-use crate::machine::{Answer, Runner, ENTRY_WORDS, MOST_ENTRIES, PC};
+use crate::machine::{Answer, Runner, ENTRY_WORDS, MOST_CELLS, MOST_ENTRIES, PC};
+use crate::profile::Fault;
 
-/// `runjob` makes one call of run; its refusals are counted below.
-const CALLS: [&str; 4] = ["step", "run", "back", "runjob"];
-const RUNJOB: usize = 3;
+/// The calls by their kind. `runjob` makes one call of run; its refusals are counted below.
+const CALLS: [&str; 5] = ["step", "run", "back", "profile", "runjob"];
+const RUNJOB: usize = 4;
+
+const STOPS: [u32; 16] = [0, 1, 2, 3, 4, 5, 6, 7, 8, 9, 10, 11, 12, 60, 61, 62];
+
+/// What the check of a rule may answer.
+const FOUND: [&str; 7] = ["forward only", "length", "reserved", "float", "int", "back", "target"];
 
 /// Every refusal that trials can bring about, by the function that refuses.
 const REFUSALS: [(&str, &[u32]); 6] = [
@@ -22,12 +28,16 @@ const REFUSALS: [(&str, &[u32]); 6] = [
 /// What happens at the limits that only large trials reach. The journals have words for more
 /// entries than there may be, and the depth is that after the call. A record's first number is the
 /// length that it tells, the second how much of that is there.
-const LIMITS: [&str; 10] = [
+const LIMITS: [&str; 14] = [
     "step 0 at depth 65536",
     "step 7 at depth 65536",
     "step 11 at depth 65537",
     "run 7 at depth 65536",
     "run 11 at depth 65537",
+    "profile 7 at depth 65536",
+    "profile 11 at depth 65537",
+    "profile 7 after 16383 steps",
+    "profile 62 after 16384 steps",
     "back 0 at depth 65535",
     "back 11 at depth 65537",
     "record 65538 of 65538 loaded",
@@ -39,6 +49,20 @@ const LIMITS: [&str; 10] = [
 const WIDENED: [&str; 3] = ["LDLIF", "FSPLIT low", "FSPLIT high"];
 const HALVES: usize = 65_536;
 
+/// 1 to 7 belong to going forward, 8 and 9 to going back, 60 to 62 to profile runs, which never
+/// come to 3, 4 or 6. A loaded job has nothing out of range, and its budget ends with its journal.
+fn can_stop(call: &str, stop: u32) -> bool {
+    match stop {
+        0 => true,
+        3 | 4 | 6 => call != "back" && call != "profile",
+        1 | 2 | 5 => call != "back",
+        7 => call != "back" && call != "runjob",
+        8 | 9 => call == "back",
+        10..=12 => call != "runjob",
+        _ => call == "profile",
+    }
+}
+
 pub struct Tally {
     pub decoded: [u64; 256],
     pub encoded: [u64; 256],
@@ -48,7 +72,11 @@ pub struct Tally {
     /// Where stop 6 met the opcode.
     unsupported: [u64; 256],
     widened: [BTreeSet<u16>; 3],
-    stops: [[u64; 13]; 4],
+    stops: BTreeMap<(usize, u32), u64>,
+    /// What checks found, made by themselves and by profile runs that came to them.
+    found: [BTreeMap<&'static str, u64>; 2],
+    /// Profile runs that did a step.
+    profile_steps: u64,
     refusals: BTreeMap<(&'static str, u32), u64>,
     limits: BTreeMap<String, u64>,
 }
@@ -63,7 +91,9 @@ impl Tally {
             executed: [0; 256],
             unsupported: [0; 256],
             widened: Default::default(),
-            stops: [[0; 13]; 4],
+            stops: BTreeMap::new(),
+            found: Default::default(),
+            profile_steps: 0,
             refusals: BTreeMap::new(),
             limits: BTreeMap::new(),
         }
@@ -74,7 +104,7 @@ impl Tally {
     }
 
     pub fn stop(&mut self, call: u8, answer: &Answer, runner: &Runner) {
-        self.stops[call as usize][answer.stop as usize] += 1;
+        self.one_stop(call as usize, answer.stop);
         if answer.stop == 6 {
             let cell = runner.cells[runner.machine.registers[PC] as usize];
             self.unsupported[opcode_of(cell) as usize] += 1;
@@ -82,6 +112,36 @@ impl Tally {
         if runner.journal.len() / ENTRY_WORDS > MOST_ENTRIES {
             self.limit(format!("{} {} at depth {}", CALLS[call as usize], answer.stop, runner.machine.depth));
         }
+    }
+
+    fn one_stop(&mut self, call: usize, stop: u32) {
+        *self.stops.entry((call, stop)).or_insert(0) += 1;
+    }
+
+    pub fn check(&mut self, found: Result<(), Fault>) {
+        self.one_check(0, found);
+    }
+
+    /// Counts what the check of a profile run found, if the call came to it.
+    pub fn profile(&mut self, found: Result<(), Fault>, answer: &Answer) {
+        if !(10..=12).contains(&answer.stop) {
+            self.one_check(1, found);
+        }
+        if answer.count > 0 {
+            self.profile_steps += 1;
+        }
+        if answer.count as usize + 1 >= MOST_CELLS {
+            self.limit(format!("profile {} after {} steps", answer.stop, answer.count));
+        }
+    }
+
+    fn one_check(&mut self, maker: usize, found: Result<(), Fault>) {
+        let name = match found {
+            Ok(()) => "forward only",
+            Err(Fault::Length) => "length",
+            Err(Fault::Cell(_, reason)) => reason.word(),
+        };
+        *self.found[maker].entry(name).or_insert(0) += 1;
     }
 
     /// Counts the first line of the answer to a job whose first record is of cells.
@@ -103,7 +163,7 @@ impl Tally {
         let first = words.next();
         let number: u32 = words.next().and_then(|word| word.parse().ok()).expect("runjob tells a number");
         match first {
-            Some("exit") => self.stops[RUNJOB][number as usize] += 1,
+            Some("exit") => self.one_stop(RUNJOB, number),
             _ => self.refusal("runjob", number),
         }
     }
@@ -124,6 +184,7 @@ impl Tally {
         self.opcodes(&mut text, &mut missing);
         self.halves(&mut text, &mut missing);
         self.calls(&mut text, &mut missing);
+        self.checks(&mut text, &mut missing);
         self.refused(&mut text, &mut missing);
         self.limited(&mut text, &mut missing);
         (text, missing)
@@ -163,26 +224,34 @@ impl Tally {
     }
 
     fn calls(&self, text: &mut String, missing: &mut Vec<String>) {
-        *text += "stop step run back runjob\n";
-        for stop in 0..13 {
+        *text += &format!("stop {}\n", CALLS.join(" "));
+        for stop in STOPS {
             *text += &stop.to_string();
             for (call, name) in CALLS.into_iter().enumerate() {
-                let count = self.stops[call][stop];
-                // 1 to 7 belong to going forward, 8 and 9 to going back. A loaded job has nothing
-                // out of range, and its budget ends with its journal.
-                let wanted = match stop {
-                    0 => true,
-                    1..=6 => name != "back",
-                    7 => name == "step" || name == "run",
-                    8 | 9 => name == "back",
-                    _ => name != "runjob",
-                };
+                let count = self.stops.get(&(call, stop)).copied().unwrap_or(0);
                 *text += &format!(" {count}");
-                if wanted && count == 0 {
+                if can_stop(name, stop) && count == 0 {
                     missing.push(format!("stop {stop} of {name}"));
                 }
             }
             text.push('\n');
+        }
+    }
+
+    fn checks(&self, text: &mut String, missing: &mut Vec<String>) {
+        *text += "found check profile\n";
+        for name in FOUND {
+            let counts = [0, 1].map(|maker| self.found[maker].get(name).copied().unwrap_or(0));
+            *text += &format!("{name} {} {}\n", counts[0], counts[1]);
+            for (count, maker) in counts.into_iter().zip(["check", "profile"]) {
+                if count == 0 {
+                    missing.push(format!("{name} of {maker}"));
+                }
+            }
+        }
+        *text += &format!("profile runs with a step {}\n", self.profile_steps);
+        if self.profile_steps == 0 {
+            missing.push("profile runs with a step".to_string());
         }
     }
 

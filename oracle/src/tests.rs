@@ -1,10 +1,14 @@
-//! The small cases of the rules, and the printed job.
+//! The small cases of the rules, the printed job, and rules that only go forward.
 
 use crate::cell::{decode, encode, with_immediate, with_registers, Decoded, Operands};
+use crate::check_rule;
+use crate::generate_forward::forward_cell;
 use crate::half::ex;
-use crate::job::{load, runjob, save};
+use crate::job::{load, record, runjob, save};
 use crate::line;
 use crate::machine::{Answer, Machine, Runner, PC};
+use crate::profile::{check, reason, Fault, Reason};
+use crate::random::Random;
 use crate::{generate, table, trial};
 
 const JOB: [u8; 26] = [0x0E, 0, 0, 0, 1, 0, 0, 0, 7, 0, 1, 5, 2, 0, 1, 0x25, 0xFF, 0xFF, 0xFF, 4, 0, 0, 0, 0, 4, 0];
@@ -208,6 +212,249 @@ fn back_of_five_at_depth_three() {
     assert_eq!((runner.machine, runner.cells), before);
 }
 
+/// The cell of a line without its LF.
+fn cell(text: &str) -> u32 {
+    line::read(format!("{text}\n").as_bytes()).unwrap()
+}
+
+#[test]
+fn cells_of_a_rule_that_only_goes_forward() {
+    for allowed in [
+        "CPSWP R0, R255, R0",
+        "LDST R1, R255, R255",
+        "SPLIT R255, R1, R2",
+        "FSPLIT R255, R1, R2",
+        "ADD R1, R255, R255",
+        "BZ R255, #0",
+        "BZ R1, #32767",
+        "LDUI R255, #65535",
+        "LDUI R254, #7",
+    ] {
+        assert_eq!(reason(cell(allowed)), None, "{allowed}");
+    }
+    for (refused, why) in [
+        ("CELL 33554432", Reason::Reserved),
+        ("CELL 4294967295", Reason::Reserved),
+        ("FADD R1, R2, R3", Reason::Float),
+        ("IF2I R255, #0", Reason::Float),
+        ("INT R255, #0", Reason::Int),
+        ("BZ R1, #32768", Reason::Back),
+        ("BZ R1, #65535", Reason::Back),
+        ("CPSWP R255, R1, R2", Reason::Target),
+        ("CPSWP R1, R2, R255", Reason::Target),
+        ("SPLIT R1, R255, R2", Reason::Target),
+        ("FSPLIT R1, R2, R255", Reason::Target),
+        ("LDST R255, R0, R0", Reason::Target),
+        ("LDUI R255, #65534", Reason::Target),
+        ("LDLI R255, #65535", Reason::Target),
+        ("ADDI R255, #0", Reason::Target),
+    ] {
+        assert_eq!(reason(cell(refused)), Some(why), "{refused}");
+    }
+}
+
+/// Of 76 legal opcodes 27 and INT are never allowed. R255 as n is fine for BZ, SPLIT and FSPLIT.
+#[test]
+fn opcodes_of_a_rule_that_only_goes_forward() {
+    let count = |n: u8, wanted: Option<Reason>| {
+        (0..=255).filter(|opcode| reason(with_registers(*opcode, n, 1, 2)) == wanted).count()
+    };
+    for n in [3, 255] {
+        assert_eq!(count(n, Some(Reason::Reserved)), 180);
+        assert_eq!(count(n, Some(Reason::Float)), 27);
+        assert_eq!(count(n, Some(Reason::Int)), 1);
+        assert_eq!(count(n, Some(Reason::Back)), 0);
+    }
+    assert_eq!((count(3, None), count(3, Some(Reason::Target))), (48, 0));
+    assert_eq!((count(255, None), count(255, Some(Reason::Target))), (3, 45));
+}
+
+#[test]
+fn the_first_bad_cell_of_a_rule() {
+    let cells = [0, cell("INT R1, #2"), 0, cell("BZ R1, #65533"), 0];
+    assert_eq!(check(0, &cells), Err(Fault::Length));
+    assert_eq!(check(1, &cells), Ok(()));
+    for length in 2..=5 {
+        assert_eq!(check(length, &cells), Err(Fault::Cell(1, Reason::Int)));
+        assert_eq!(check(length - 1, &cells[1..]), Err(Fault::Cell(0, Reason::Int)));
+    }
+    assert_eq!(check(3, &cells[2..]), Err(Fault::Cell(1, Reason::Back)));
+    for length in [6, 65_537, u32::MAX] {
+        assert_eq!(check(length, &cells), Err(Fault::Length));
+    }
+    assert_eq!(check(1, &[]), Err(Fault::Length));
+}
+
+/// The branch leaves out cell 2, so the rule of four cells ends after three steps.
+#[test]
+fn a_profile_run_to_the_end() {
+    let rule = ["LDLIZ R1, #5", "BZ R0, #1", "LDLIZ R1, #6", "LDUI R255, #65535"].map(cell);
+    let mut runner = Runner::new(Machine::fresh(), rule.to_vec(), vec![0; 80]);
+    assert_eq!(runner.profile_run(4, 2), Answer::stop(0, 2));
+    assert_eq!(runner.profile_run(2, 9), Answer::stop(62, 0));
+    assert_eq!(runner.profile_run(4, u64::MAX), Answer::stop(1, 1));
+    assert_eq!((runner.machine.registers[PC], runner.machine.registers[1]), (0xFFFF_0004, 5));
+    assert_eq!((runner.machine.flags, runner.machine.depth), (256, 3));
+    assert_eq!(runner.profile_run(4, 1), Answer::stop(1, 0));
+    assert_eq!(runner.back(9), Answer::stop(8, 3));
+    assert_eq!(runner.machine, Machine::fresh());
+}
+
+#[test]
+fn a_profile_run_out_of_its_rule() {
+    let cells = vec![cell("ADDI R1, #1"); 3];
+    for (m, length) in [(3, 3), (3, 2), (1, 1)] {
+        let mut runner = Runner::new(Machine::fresh(), cells[..m].to_vec(), vec![0; 8 * length]);
+        assert_eq!(runner.profile_run(length as u32, u64::MAX), Answer::stop(62, length as u64));
+        assert_eq!(runner.profile_run(length as u32, 0), Answer::stop(0, 0));
+    }
+    let mut full = Runner::new(Machine::fresh(), cells, vec![0; 15]);
+    assert_eq!(full.profile_run(3, 5), Answer::stop(7, 1));
+}
+
+/// 12, 10, 11 and then 60, which even a budget of 0 does not keep back.
+#[test]
+fn what_a_profile_run_tests_first() {
+    let stop = |m: usize, mode: u32, depth: u32, length: u32| {
+        let machine = Machine { mode, depth, ..Machine::fresh() };
+        let mut runner = Runner::new(machine, vec![cell("CELL 33554432"); m], vec![0; 16]);
+        runner.profile_run(length, 0).stop
+    };
+    assert_eq!([stop(0, 4, 3, 0), stop(16_385, 4, 3, 1)], [12, 12]);
+    assert_eq!([stop(5, 4, 3, 0), stop(5, 4, 3, 1)], [10, 10]);
+    assert_eq!([stop(5, 3, 3, 0), stop(5, 3, 3, 1)], [11, 11]);
+    assert_eq!([stop(5, 3, 2, 0), stop(5, 3, 2, 1), stop(5, 3, 2, 6)], [60, 60, 60]);
+}
+
+/// A rule of three among six cells that stores by R2 and loads by R3; a refused step changes nothing.
+#[test]
+fn stores_of_a_profile_run() {
+    for (store, load, stop, flags) in [
+        (0, 0, 0, 0),
+        (0, 1, 0, 0),
+        (1, 0, 61, 0),
+        (2, 2, 61, 0),
+        (3, 0, 0, 0),
+        (5, 2, 0, 0),
+        (6, 0, 5, 0),
+        (1, 6, 5, 0),
+        (2, 0xFFFE_FFFF, 5, 0),
+        (1, 0xFFFF_0003, 61, 0),
+        (2, 0xFFFF_FFFF, 61, 0),
+        (3, 0xFFFF_0003, 0, 128),
+        (0xFFFF_0000, 1, 0, 128),
+        (0xFFFF_0001, 1, 0, 0),
+    ] {
+        let mut before = Machine::fresh();
+        before.registers[2..4].copy_from_slice(&[store, load]);
+        let cells = vec![cell("LDST R1, R2, R3"), 0, 0, 7, 8, 9];
+        let mut runner = Runner::new(before.clone(), cells.clone(), vec![0; 8]);
+        let answer = runner.profile_run(3, 1);
+        assert_eq!(answer, Answer::stop(stop, (stop == 0) as u64), "{store} {load}");
+        assert_eq!(runner.machine.flags, flags);
+        if stop != 0 {
+            assert_eq!((runner.machine, runner.cells, runner.journal), (before, cells, vec![0; 8]));
+        }
+    }
+}
+
+/// A plain step writes INT into cell 1 of the rule; with a step back it is gone.
+#[test]
+fn each_profile_run_checks_again() {
+    let mut machine = Machine::fresh();
+    machine.registers[1..3].copy_from_slice(&[cell("INT R1, #2"), 1]);
+    let mut runner = Runner::new(machine, vec![cell("LDST R1, R2, R0"), 0, 0], vec![0; 80]);
+    assert_eq!(runner.profile_run(3, 1), Answer::stop(61, 0));
+    assert_eq!(runner.step(), Answer::stop(0, 1));
+    assert_eq!(runner.profile_run(3, 1), Answer { place: 1, ..Answer::stop(60, 0) });
+    assert_eq!(runner.profile_run(1, 1), Answer::stop(62, 0));
+    assert_eq!(runner.back(1), Answer::stop(0, 1));
+    assert_eq!(runner.profile_run(3, 1), Answer::stop(61, 0));
+    assert_eq!(runner.profile_run(1, 9), Answer::stop(62, 1));
+    assert_eq!(runner.cells[1], cell("INT R1, #2"));
+}
+
+/// Whatever the rule is, all profile runs of it together do no more steps than it has cells.
+#[test]
+fn no_more_steps_than_cells() {
+    let mut random = Random::new(9);
+    for _ in 0..2_000 {
+        let length = 1 + random.below(20) as u32;
+        let mut cells: Vec<u32> = (0..length).map(|_| forward_cell(&mut random)).collect();
+        cells.resize(30, 0);
+        let mut machine = Machine::fresh();
+        machine.registers[..PC].iter_mut().for_each(|register| *register = random.word());
+        let start = random.below(length as u64);
+        machine.registers[PC] = start as u32;
+        let mut runner = Runner::new(machine, cells, vec![0; 8 * 100]);
+        let steps: u64 = (0..30).map(|_| runner.profile_run(length, 3).count).sum();
+        assert!(steps <= length as u64 - start);
+    }
+}
+
+fn job_of(lines: &[&str]) -> Vec<u8> {
+    let cells: Vec<u8> = lines.iter().flat_map(|line| cell(line).to_le_bytes()).collect();
+    [record(1, &[&[0, 0], &cells[..]].concat()), record(4, &[])].concat()
+}
+
+#[test]
+fn what_check_rule_prints() {
+    let good = job_of(&["LDLIZ R1, #7", "SUBI R1, #2", "LDUI R255, #65535"]);
+    assert_eq!(check_rule::text(None, &good), "forward only: at most 3 steps\n");
+    assert_eq!(check_rule::text(Some("1"), &good), "forward only: at most 1 steps\n");
+    assert_eq!(check_rule::text(Some("4096"), &good), "forward only: at most 4096 steps\n");
+    for length in ["0", "4097", "", "03", "+3", "-3", "3 ", "x", "4294967299", "99999999999999999999"] {
+        assert_eq!(check_rule::text(Some(length), &good), "refused 60: L must be 1 to 4096\n", "{length}");
+    }
+    for (line, sentence) in [
+        ("CELL 33554432", "the opcode is reserved"),
+        ("FADD R1, R2, R3", "opcodes 80 to 106 do not run"),
+        ("INT R1, #65535", "INT would stop the rule"),
+        ("BZ R1, #65533", "the branch goes back"),
+        ("LDST R255, R0, R0", "R255 is a target, which it may be in LDUI R255, #65535 alone"),
+    ] {
+        let job = job_of(&["ADDI R1, #1", "ADDI R1, #1", "ADDI R1, #1", line]);
+        let wanted = format!("cell 3: {line}\nnot allowed: {sentence}\n");
+        assert_eq!(check_rule::text(None, &job), wanted);
+        assert_eq!(check_rule::text(Some("4"), &job), wanted);
+        assert_eq!(check_rule::text(Some("3"), &job), "forward only: at most 3 steps\n");
+    }
+}
+
+#[test]
+fn jobs_that_check_rule_refuses() {
+    let no_rule = "refused 60: the first record does not begin at cell 0\n";
+    let later = [record(1, &[1, 0, 0, 0, 0, 0]), record(4, &[])].concat();
+    for job in [record(4, &[]), [record(2, &[0, 0, 0, 0, 0]), record(4, &[])].concat(), later] {
+        assert_eq!(check_rule::text(None, &job), no_rule);
+        assert_eq!(check_rule::text(Some("2"), &job), "forward only: at most 2 steps\n");
+    }
+    for length in [None, Some("0")] {
+        assert_eq!(check_rule::text(length, b""), "refused 41 at 0\n");
+        assert_eq!(check_rule::text(length, &[0; 32_769]), "refused 50 at 32768\n");
+        assert_eq!(check_rule::text(length, &[&JOB[..], &[0]].concat()), "refused 47 at 26\n");
+    }
+}
+
+/// A rule of two cells whose second is INT: checked, and run after a profile run was refused.
+#[test]
+fn trials_of_rules_that_only_go_forward() {
+    let settings = [1, 0, 1, 0, 0, 0, 9, 0, 1, 0x7A];
+    let mut tally = table::Tally::new();
+    for (length, text) in [(0, "length\n"), (1, "forward only\n"), (2, "cell 1 int\n"), (3, "length\n")] {
+        let payload = [&[length, 0, 0, 0, 2, 0, 0, 0], &settings[..]].concat();
+        assert_eq!(trial::answer(trial::CHECK, &payload, &mut tally).unwrap(), text);
+    }
+    let head = [[2, 0, 0, 0], [16, 0, 0, 0], [0; 4], [0; 4], [3, 0, 0, 0], [0; 4]].concat();
+    let calls = [&[2, 0, 3, 1, 0, 0, 0, 0, 0, 0, 0, 2, 0, 0, 0][..], &[0, 0, 0, 0, 0, 0, 0, 0, 0]].concat();
+    let payload = [&head[..], &[0, 0], &settings[..], &[0, 0], &calls[..]].concat();
+    let text = trial::answer(trial::CALLS, &payload, &mut tally).unwrap();
+    let lines: Vec<&str> = text.lines().collect();
+    assert_eq!(lines.len(), 2);
+    assert!(lines[0].starts_with("stop 60 value 0 imm 0 place 1 count 0 pc 0 flags 0 mask 0 mode 3 depth 0 "));
+    assert!(lines[1].starts_with("stop 0 value 0 imm 0 place 0 count 1 pc 1 flags 0 mask 0 mode 3 depth 1 "));
+}
+
 /// Two lists that differ in one word, or in which of their places a word stands.
 #[test]
 fn digests_differ() {
@@ -236,10 +483,10 @@ fn digests_differ() {
 #[test]
 fn generated_trials() {
     for seed in 0..3 {
-        let file = generate::trials(seed, 6_000);
+        let file = generate::trials(seed, 6_500);
         let mut tally = table::Tally::new();
         let trials = trial::split(&file).unwrap();
-        assert_eq!(trials.len(), 6_000);
+        assert_eq!(trials.len(), 6_500);
         for (kind, payload) in trials {
             trial::answer(kind, payload, &mut tally).unwrap();
         }

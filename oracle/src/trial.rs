@@ -4,6 +4,7 @@ use crate::cell::{self, Decoded, Operands};
 use crate::job;
 use crate::line;
 use crate::machine::{Answer, Machine, Runner, PC};
+use crate::profile::{self, Fault};
 use crate::table::Tally;
 
 pub const DECODE: u8 = 1;
@@ -15,10 +16,12 @@ pub const CALLS: u8 = 6;
 pub const RUNJOB: u8 = 7;
 pub const SAVE: u8 = 8;
 pub const DESCRIBED: u8 = 9;
+pub const CHECK: u8 = 10;
 
 pub const STEP: u8 = 0;
 pub const RUN: u8 = 1;
 pub const BACK: u8 = 2;
+pub const PROFILE: u8 = 3;
 
 pub const MOST_PAYLOAD: usize = 40_000;
 pub const MOST_PRINT_ROOM: usize = 40;
@@ -121,6 +124,7 @@ pub fn answer(kind: u8, payload: &[u8], tally: &mut Tally) -> Result<String, Str
         RUNJOB => runjob(&mut input, tally),
         SAVE => save(&mut input, tally)?,
         DESCRIBED => described(&mut input, tally)?,
+        CHECK => check(&mut input, tally)?,
         _ => return Err(format!("kind {kind} is unknown")),
     };
     input.end()?;
@@ -275,13 +279,7 @@ fn calls(input: &mut Input, tally: &mut Tally) -> Result<String, String> {
     let mut text = String::new();
     for _ in 0..input.number(2)? {
         let call = input.byte()?;
-        let number = input.number(8)?;
-        let answer = match call {
-            STEP => runner.step(),
-            RUN => runner.run(number),
-            BACK => runner.back(number),
-            _ => return Err(format!("call {call} is unknown")),
-        };
+        let answer = one_call(call, input, &mut runner, tally)?;
         tally.stop(call, &answer, &runner);
         text += &call_text(&answer, &runner);
     }
@@ -289,10 +287,27 @@ fn calls(input: &mut Input, tally: &mut Tally) -> Result<String, String> {
     Ok(text)
 }
 
+fn one_call(call: u8, input: &mut Input, runner: &mut Runner, tally: &mut Tally) -> Result<Answer, String> {
+    let number = input.number(8)?;
+    Ok(match call {
+        STEP => runner.step(),
+        RUN => runner.run(number),
+        BACK => runner.back(number),
+        PROFILE => {
+            let length = input.word()?;
+            let fault = profile::check(length, &runner.cells);
+            let answer = runner.profile_run(length, number);
+            tally.profile(fault, &answer);
+            answer
+        }
+        _ => return Err(format!("call {call} is unknown")),
+    })
+}
+
 fn call_text(answer: &Answer, runner: &Runner) -> String {
-    let Answer { stop, value, imm, count } = answer;
+    let Answer { stop, value, imm, place, count } = answer;
     format!(
-        "stop {stop} value {value} imm {imm} count {count} pc {} {} journal {}\n",
+        "stop {stop} value {value} imm {imm} place {place} count {count} pc {} {} journal {}\n",
         runner.machine.registers[PC],
         machine_text(&runner.machine, &runner.cells),
         words(&runner.journal)
@@ -306,4 +321,17 @@ fn runjob(input: &mut Input, tally: &mut Tally) -> String {
         tally.executed(runner);
     }
     text
+}
+
+fn check(input: &mut Input, tally: &mut Tally) -> Result<String, String> {
+    let length = input.word()?;
+    let mut cells = vec![0; input.length(4, MOST_CELLS)?];
+    settings(input, 4, &mut cells)?;
+    let found = profile::check(length, &cells);
+    tally.check(found);
+    Ok(match found {
+        Ok(()) => "forward only\n".to_string(),
+        Err(Fault::Length) => "length\n".to_string(),
+        Err(Fault::Cell(place, reason)) => format!("cell {place} {}\n", reason.word()),
+    })
 }
