@@ -1,4 +1,4 @@
--- A profile's code, as the code asks for it and as the definition does: how far it goes, and what a store into it is.
+-- A store into a profile's code, as the code asks for it and as the definition does.
 -- Assumes nothing.
 use Prim.Native.Nat.{ℕ, _≤_}
 use mathlib.Core.Path.{_≡_, refl}
@@ -18,18 +18,9 @@ use Rattle.effect.specs.Action.{Action, actionOf}
 use Rattle.effect.specs.Operands.{operandOf, reg}
 use Rattle.effect.specs.Refusal.{faults, refusedBy}
 use Rattle.effect.proofs.Opcodes.{ldst}
-use Rattle.step.specs.Step.{codeOf, storesInto, guardOf}
-use Rattle.forward.specs.Inner.{limitOf, guardedOf, storesBelow}
+use Rattle.step.specs.Step.{storesInto, guardOf}
+use Rattle.forward.specs.Inner.{guardedOf, storesBelow}
 use Rattle.effect.proofs.Rows.{by-rows}
-
--- the cells that a run may fetch from
-pub code-is : (kind : Kind) (s : State) → codeOf kind s ≡ limitOf kind (length (s .cells))
-code-is Plain s = refl
-code-is (Profile l) s = refl
-
-pub limit-within : (kind : Kind) (size : ℕ) → limitOf kind size ≤ size
-limit-within Plain size = omega arith
-limit-within (Profile l) size = omega arith
 
 -- tests on stores: f, a pointer faults; t, the store is below the guard
 or-none : (o : Option ℕ) → orElse o none ≡ o

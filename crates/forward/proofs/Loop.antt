@@ -24,8 +24,8 @@ use Rattle.journal.proofs.Room.{at-most, entries}
 use Rattle.step.specs.Step.{codeOf}
 use Rattle.call.specs.Calls.{Out, stopAt, runFrom}
 use Rattle.carried.specs.Left.{left, leftOf, before}
-use Rattle.forward.specs.Inner.{heldOf, stopping, movedBy, goOnBy, resumeOf, limitOf, guardedOf, storesBelow}
-use Rattle.forward.proofs.Guard.{code-is, limit-within}
+use Rattle.forward.specs.Inner.{heldOf, stopping, movedBy, goOnBy, resumeOf, guardedOf, storesBelow}
+use Rattle.step.proofs.Keeps.{code-within}
 use Rattle.forward.proofs.Steps.{Goes, overwrites, stepped}
 use Rattle.forward.proofs.Runs.{goes-on, not-ended, refused-run}
 
@@ -42,12 +42,12 @@ pub record Fixed (kind : Kind) (budget total depth limit guard : ℕ) (cells₀ 
   pub within : total ≤ budget
   pub room : depth + total ≤ capacityOf journal₀
   pub most : (total ≡ budget) ⊎ (depth + total ≡ capacityOf journal₀)
-  pub code : limit ≡ limitOf kind (length cells₀)
+  pub code : limit ≡ codeOf kind (length cells₀)
   pub guarded : guard ≡ guardedOf kind
   pub few-cells : length cells₀ ≤ mostCells
 
 pub fixed-first : (kind : Kind) (budget most depth total limit guard : ℕ) (cells₀ journal₀ : List ℕ) → total ≡ min budget (most - depth) → depth ≤ most → most ≡ capacityOf journal₀
-    → limit ≡ limitOf kind (length cells₀) → guard ≡ guardedOf kind → length cells₀ ≤ mostCells → Fixed kind budget total depth limit guard cells₀ journal₀
+    → limit ≡ codeOf kind (length cells₀) → guard ≡ guardedOf kind → length cells₀ ≤ mostCells → Fixed kind budget total depth limit guard cells₀ journal₀
 fixed-first kind budget most depth total limit guard cells₀ journal₀ e deep all code guarded few = record {
   within = omega (arith, e);
   room = omega (arith, e, deep, all);
@@ -114,11 +114,11 @@ module _ {kind : Kind} {budget total depth : ℕ} {regs₀ : List ℕ} {s₀ : �
     part-room h = omega (arith, u .place, u .few, u .same-journal, entries journal₀ (depth + total) (fixed .room))
 
     -- the code is still as long, and lies within the cells
-    pub same-code : limit ≡ limitOf kind (length cells)
+    pub same-code : limit ≡ codeOf kind (length cells)
     same-code = rw (u .same-cells) (fixed .code)
 
     pub in-cells : limit ≤ length cells
-    in-cells = omega (arith, same-code, limit-within kind (length cells))
+    in-cells = omega (arith, same-code, code-within kind (length cells))
 
     -- PC is outside the code
     pub off-code : (o : Out) → o ≡ resumeOf kind (budget - k) k regs s (depth + k) cells journal → o ≡ runFrom kind budget 0 (heldOf regs₀ s₀ depth cells₀ journal₀)
@@ -150,8 +150,8 @@ module _ {kind : Kind} {budget total depth : ℕ} {regs₀ : List ℕ} {s₀ : �
       abbrev held : State
       held = heldOf regs s (depth + k) cells journal
 
-      in-code : pcOf regs < codeOf kind held
-      in-code = rw (code-is kind held, ← same-code) inside
+      in-code : pcOf regs < codeOf kind (length cells)
+      in-code = rw (← same-code) inside
 
       space : depth + k < capacityOf journal
       space = rw (same-capacity journal journal₀ (u .same-journal)) (omega (arith, u .few, fixed .room))

@@ -16,12 +16,11 @@ use Rattle.machine.specs.Stops.{plainly}
 use Rattle.machine.proofs.Tests.{or-left}
 use Rattle.packed.specs.Packed.{unpackedOf}
 use Rattle.journal.specs.Journal.{endedOf, settledOf}
-use Rattle.step.specs.Step.{outside, going, stopped, refusalOf, stepOf}
+use Rattle.step.specs.Step.{codeOf, outside, going, stopped, refusalOf, stepOf}
 use Rattle.step.proofs.Steps.{refused-with, at-end, off-code, full}
 use Rattle.call.specs.Calls.{stopAt, goOn, runFrom}
 use Rattle.carried.specs.Left.{toldInt, toldFault}
-use Rattle.forward.specs.Inner.{heldOf, trapped, stopping, movedBy, endsBy, finalOf, limitOf, resumeOf, numberOf}
-use Rattle.forward.proofs.Guard.{code-is}
+use Rattle.forward.specs.Inner.{heldOf, trapped, stopping, movedBy, endsBy, finalOf, resumeOf, numberOf}
 
 -- a step that does not stop the run
 module _ (kind : Kind) (n k told : ℕ) (regs : List ℕ) (s cell depth : ℕ) (cells journal : List ℕ) (st : State)
@@ -54,12 +53,12 @@ refused-run kind n k st j h = rw (← refused-with kind st j h)
 
 -- the loop is over: PC is outside the code, the budget is done, or the journal is full
 module _ (kind : Kind) (regs cells journal : List ℕ) (s depth done budget : ℕ) (le : done ≤ budget)
-    (over : (limitOf kind (length cells) ≤ pcOf regs) ⊎ ((done ≡ budget) ⊎ (capacityOf journal ≤ depth))) where
+    (over : (codeOf kind (length cells) ≤ pcOf regs) ⊎ ((done ≡ budget) ⊎ (capacityOf journal ≤ depth))) where
   abbrev held : State
   held = heldOf regs s depth cells journal
 
   abbrev limit : ℕ
-  limit = limitOf kind (length cells)
+  limit = codeOf kind (length cells)
 
   filled : (done ≡ budget → ⊥) → pcOf regs < limit → capacityOf journal ≤ depth
   filled more within = go over
@@ -72,10 +71,10 @@ module _ (kind : Kind) (regs cells journal : List ℕ) (s depth done budget : �
   refuses : (done ≡ budget → ⊥) → (e f : Bool) → leb firstSpecial (pcOf regs) ≡ e → leb limit (pcOf regs) ≡ f
       → (n : ℕ) → stopAt (plainly (cond e 1 (cond f (outside kind) 7))) done held ≡ runFrom kind (suc n) done held
   refuses more true f p q n = refused-run kind n done held 1 (at-end kind held (leb-true firstSpecial (pcOf regs) p))
-  refuses more false true p q n = refused-run kind n done held (outside kind) (off-code kind held (leb-false firstSpecial (pcOf regs) p) (rw (code-is kind held) (leb-true limit (pcOf regs) q)))
+  refuses more false true p q n = refused-run kind n done held (outside kind) (off-code kind held (leb-false firstSpecial (pcOf regs) p) (leb-true limit (pcOf regs) q))
   refuses more false false p q n =
       let within = leb-false limit (pcOf regs) q in
-      refused-run kind n done held 7 (full kind held (leb-false firstSpecial (pcOf regs) p) (rw (code-is kind held) within) (filled more within))
+      refused-run kind n done held 7 (full kind held (leb-false firstSpecial (pcOf regs) p) within (filled more within))
 
   rests : (t : Bool) → eqb done budget ≡ t
       → stopAt (plainly (cond t 0 (cond (endedOf regs) 1 (cond (leb limit (pcOf regs)) (outside kind) 7)))) done held ≡ runFrom kind (budget - done) done held

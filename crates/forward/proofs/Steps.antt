@@ -94,7 +94,7 @@ module _ (st : State) (cell : ℕ) (long : length (st .regs) ≡ 256) (range : I
       }
 
 module _ (kind : Kind) (regs cells journal : List ℕ) (s depth at cell : ℕ) (settled : InRange (unpackedOf s)) (long : length regs ≡ 256)
-    (on : pcOf regs < firstSpecial) (within : pcOf regs < codeOf kind (heldOf regs s depth cells journal)) (fetched : cell ≡ getD cells (pcOf regs) 0)
+    (on : pcOf regs < firstSpecial) (within : pcOf regs < codeOf kind (length cells)) (fetched : cell ≡ getD cells (pcOf regs) 0)
     (space : depth < capacityOf journal) (place : at ≡ startOf depth) where
   abbrev held : State
   held = heldOf regs s depth cells journal

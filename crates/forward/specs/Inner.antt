@@ -1,5 +1,5 @@
 -- What only the contracts of private functions cite: a step from what it told and left, and a run whose flag 256 is still to be set.
-use Prim.Native.Nat.{ℕ, _+_, min}
+use Prim.Native.Nat.{ℕ, _+_}
 use mathlib.Core.Bool.{Bool, cond, not, _&&_, _||_}
 use mathlib.Core.List.{List}
 use lib.Bits.{bitAnd}
@@ -66,11 +66,6 @@ finalOf done regs s depth cells journal = stateWith regs (settledOf (endsBy done
 unfoldable pub resumeOf : Kind → ℕ → ℕ → List ℕ → ℕ → ℕ → List ℕ → List ℕ → Out
 resumeOf kind n k regs s depth cells journal =
     cond (endsBy k (pcOf regs)) (stopAt (plainly 1) k (finalOf k regs s depth cells journal)) (runFrom kind n k (heldOf regs s depth cells journal))
-
--- how many cells a run may fetch from, of so many
-abbrev pub limitOf : Kind → ℕ → ℕ
-limitOf Plain size = size
-limitOf (Profile l) size = min l size
 
 -- the stop's number of a run that no step stopped
 abbrev pub numberOf : Kind → ℕ → ℕ → ℕ → ℕ → ℕ

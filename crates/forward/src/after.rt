@@ -9,10 +9,10 @@ ghost use Rattle.machine.specs.State.{State, capacityOf, pcOf};
 ghost use Rattle.machine.specs.Stops.{saidOf, plainly};
 ghost use Rattle.packed.specs.Packed.{unpackedOf};
 ghost use Rattle.journal.specs.Journal.{settledOf};
-ghost use Rattle.step.specs.Step.{outside};
+ghost use Rattle.step.specs.Step.{codeOf, outside};
 ghost use Rattle.call.specs.Calls.{Out, stopAt};
 ghost use Rattle.call.specs.Answers.{outOf};
-ghost use Rattle.forward.specs.Inner.{heldOf, stopping, refusalBy, stopAfter, movedBy, goOnBy, limitOf, resumeOf, numberOf};
+ghost use Rattle.forward.specs.Inner.{heldOf, stopping, refusalBy, stopAfter, movedBy, goOnBy, resumeOf, numberOf};
 use call::Ran;
 use carried::Told;
 use cell::imm_of;
@@ -155,7 +155,7 @@ pub(crate) fn finish(
     budget: u64,
 ) -> Ran
     requires { ⌜ (depth + done ≤ 65536) × (done ≤ budget) ⌝ }
-    ensures { λ r. ⌜ ((cells journal : List ℕ) → limit ≡ limitOf kind (length cells)
+    ensures { λ r. ⌜ ((cells journal : List ℕ) → limit ≡ codeOf kind (length cells)
         → (limit ≤ pcOf (now (regs .entry))) ⊎ ((done ≡ budget) ⊎ (capacityOf journal ≤ depth + done))
         → outOf r cells journal ≡ resumeOf kind (budget - done) done (now (regs .entry)) s (depth + done) cells journal) ⌝ }
 {

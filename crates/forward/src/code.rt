@@ -3,7 +3,8 @@ ghost use mathlib.Core.Path.{_≡_};
 ghost use Prim.Native.Nat.{_<_};
 ghost use Rattle.effect.specs.Operands.{operandOf};
 ghost use Rattle.effect.specs.Refusal.{faults};
-ghost use Rattle.forward.specs.Inner.{limitOf, guardedOf, storesBelow};
+ghost use Rattle.step.specs.Step.{codeOf};
+ghost use Rattle.forward.specs.Inner.{guardedOf, storesBelow};
 use carried::next_of;
 use cell::l_of;
 use cell::m_of;
@@ -13,7 +14,7 @@ use machine::Kind;
 
 // How many cells a run may fetch from.
 pub(crate) fn limit_of(kind: Kind, size: usize) -> usize
-    ensures { λ r. ⌜ r ≡ limitOf kind size ⌝ }
+    ensures { λ r. ⌜ r ≡ codeOf kind size ⌝ }
 {
     match kind {
         Kind::Plain => size,

@@ -50,7 +50,7 @@ pub record Clear (s : State) : Type 0 where
   pub allowed : refusedBy (actionIn s) s ≡ none
 
 -- the code lies within the cells
-code-within : (kind : Kind) (m : ℕ) → codeOf kind m ≤ m
+pub code-within : (kind : Kind) (m : ℕ) → codeOf kind m ≤ m
 code-within Plain m = omega arith
 code-within (Profile l) m = omega arith
 
