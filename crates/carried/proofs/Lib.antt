@@ -1,2 +1,2 @@
-pub mod Operand
+pub mod Operands
 pub mod Flags

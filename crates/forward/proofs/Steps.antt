@@ -34,7 +34,7 @@ use Rattle.journal.proofs.Undo.{length-regs}
 use Rattle.step.specs.Step.{codeOf, guardOf, going, stopped, effectIn, refusalOf, trapsOf, courseOf, stepOf}
 use Rattle.step.proofs.Steps.{refused-with, done-with, looked-at}
 use Rattle.carried.specs.Left.{Left, left, leftOf, doneBy, before, toldBy, toldInt, toldFault, toldRefused}
-use Rattle.carried.proofs.Operand.{read}
+use Rattle.carried.proofs.Operands.{read}
 use Rattle.forward.specs.Inner.{heldOf, refusalBy, courseBy, movedBy, guardedOf, storesBelow}
 use Rattle.forward.proofs.Guard.{passes, caught}
 use Rattle.forward.proofs.Told.{plain, five-or-six}

@@ -16,7 +16,7 @@ use Rattle.effect.specs.Action.{Ldst}
 use Rattle.effect.specs.Operands.{nextOf, operandOf, behind}
 use Rattle.journal.specs.Journal.{regsAfter, cellsAfter, entryOf, entered}
 use Rattle.carried.specs.Left.{left, leftOf, before}
-use Rattle.carried.proofs.Operand.{read}
+use Rattle.carried.proofs.Operands.{read}
 use Rattle.ldst.specs.Inner.{entryBy}
 use Rattle.ldst.proofs.Cases.{Known, done}
 

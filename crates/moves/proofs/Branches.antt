@@ -21,7 +21,7 @@ use Rattle.effect.specs.Becomes.{becameOf}
 use Rattle.journal.specs.Words.{entryWith}
 use Rattle.journal.specs.Journal.{regsAfter, cellsAfter, entryOf, entered}
 use Rattle.carried.specs.Left.{left, leftOf, before}
-use Rattle.carried.proofs.Operand.{read}
+use Rattle.carried.proofs.Operands.{read}
 
 module _ (n imm s told : ℕ) (regs cells part part' : List ℕ) (small : s < 2 ^ 32) (long : length regs ≡ 256)
     (entry : part' ≡ entered part (entryWith regs (unpackedOf s) noWrite noWrite noStore 0)) where

@@ -20,7 +20,7 @@ use Rattle.packed.specs.Packed.{unpackedOf}
 use Rattle.journal.specs.Words.{entryWith}
 use Rattle.journal.specs.Journal.{regsAfter, cellsAfter, entryOf, entered}
 use Rattle.carried.specs.Left.{left, leftOf, before}
-use Rattle.carried.proofs.Operand.{read}
+use Rattle.carried.proofs.Operands.{read}
 use Rattle.carried.proofs.Flags.{replaces}
 use Rattle.operation.specs.Inner.{Operated}
 

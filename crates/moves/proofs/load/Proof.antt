@@ -8,7 +8,7 @@ use Rattle.effect.specs.Refusal.{refusedBy}
 use Rattle.effect.specs.Becomes.{becameOf}
 use Rattle.journal.specs.Journal.{regsAfter, cellsAfter, entryOf}
 use Rattle.carried.specs.Left.{leftOf, before}
-use Rattle.carried.proofs.Operand.{read}
+use Rattle.carried.proofs.Operands.{read}
 use Rattle.moves.proofs.load.Statement.{statement}
 use Rattle.moves.proofs.load.Tie as tie
 
