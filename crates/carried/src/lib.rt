@@ -1,5 +1,6 @@
 // An instruction carried out over lent registers, a word of settings and the part of the journal that its entry goes into: what it leaves is
-// defined here, with the steps that most instructions share. Each writes its entry first, then PC.
+// defined here, with what they share: the next PC, an operand, a pointer's fault, and the steps of most of them, which write their entry
+// first, then PC.
 ghost use mathlib.Core.Path.{_≡_};
 ghost use mathlib.Core.Bool.{cond};
 ghost use lib.Dec.{eqb};
@@ -8,8 +9,9 @@ ghost use mathlib.Core.List.{List};
 ghost use Prim.Native.Nat.{ℕ, _+_, _%_, _<_};
 ghost use Rattle.cell.specs.Cell.{nOf};
 ghost use Rattle.effect.specs.Action.{Illegal};
-ghost use Rattle.effect.specs.Operands.{nextOf};
+ghost use Rattle.effect.specs.Operands.{nextOf, operandOf};
 ghost use Rattle.effect.specs.Parts.{noWrite, noStore, gets, flagsOf};
+ghost use Rattle.effect.specs.Refusal.{faults};
 ghost use Rattle.packed.specs.Packed.{unpackedOf};
 ghost use Rattle.journal.specs.Words.{entryWith};
 ghost use Rattle.journal.specs.Journal.{entered};
@@ -17,6 +19,7 @@ ghost use Rattle.carried.specs.Left.{left, leftOf, before};
 use cell::n_of;
 use journal::Entry;
 use journal::enter;
+use machine::Address;
 use machine::Settings;
 use word::Flag;
 use word::Written;
@@ -37,6 +40,24 @@ pub fn next_of(pc: u32) -> u32
     ensures { λ r. ⌜ r ≡ (pc + 1) % 4294967296 ⌝ }
 {
     std::num::wrapping_add_u32(pc, 1)
+}
+
+// A register's value as an operand, its number taken modulo 256; register 255 is the next PC.
+pub fn operand(regs: &[u32; 256], i: u32) -> u32
+    ensures { λ r. ⌜ r ≡ operandOf (now (regs .entry)) (i % 256) ⌝ }
+{
+    let k = i % 256;
+    if k == 255 {
+        return next_of(regs[255]);
+    }
+    regs[k as usize]
+}
+
+// Whether a pointer is past the cells and below the special addresses.
+pub fn is_fault(size: usize, p: u32) -> bool
+    ensures { λ r. ⌜ r ≡ faults size p ⌝ }
+{
+    (size <= p as usize) & (p < Address::FLAGS)
 }
 
 // The entry of a step that writes no register and stores to no cell; then PC moves on.
