@@ -6,14 +6,15 @@ ghost use lib.ListN.{length, set};
 ghost use Rattle.cell.specs.Cell.{nOf, mOf, lOf};
 ghost use Rattle.machine.specs.State.{firstSpecial, writeIf};
 ghost use Rattle.effect.specs.Action.{Ldst};
-ghost use Rattle.effect.specs.Operands.{nextOf, operandOf, behind};
+ghost use Rattle.effect.specs.Operands.{nextOf, behind};
 ghost use Rattle.effect.specs.Effect.{illegalStore};
-ghost use Rattle.effect.specs.Refusal.{faults};
 ghost use Rattle.carried.specs.Left.{left, leftOf, before, doneBy};
 ghost use Rattle.ldst.specs.Inner.{entryBy, loadOf, storeOf, settingsOf, keptOf, transferOf};
 use carried::Told;
 use carried::illegal;
+use carried::is_fault;
 use carried::next_of;
+use carried::operand;
 use cell::l_of;
 use cell::m_of;
 use cell::n_of;
@@ -24,21 +25,6 @@ use machine::Settings;
 use machine::index_of;
 use packed::pack;
 use packed::unpack;
-
-// An operand's value; register 255 is the next PC.
-fn operand(regs: &[u32; 256], i: u32, next: u32) -> u32
-    requires { ⌜ (i < 256) × (next ≡ nextOf (now regs)) ⌝ }
-    ensures { λ r. ⌜ r ≡ operandOf (now (regs .entry)) i ⌝ }
-{
-    if i == 255 { next } else { regs[i as usize] }
-}
-
-// Whether a pointer is past the cells and below the special addresses.
-fn is_fault(size: usize, p: u32) -> bool
-    ensures { λ r. ⌜ r ≡ faults size p ⌝ }
-{
-    (size <= p as usize) & (p < Address::FLAGS)
-}
 
 // Whether a store of v at p is illegal.
 fn illegal_store(p: u32, v: u32) -> bool
@@ -202,11 +188,10 @@ fn transfer_any(
     ensures { λ r. ⌜ left (now (regs .exit)) (now (cells .exit)) (now (part .exit)) r (now (told .exit))
         ≡ leftOf (now (told .entry)) (Ldst (nOf cell) (mOf cell) (lOf cell)) (before (now (regs .entry)) s (now (cells .entry)) (now (part .entry))) ⌝ }
 {
-    let next = next_of(regs[255]);
     let n = n_of(cell);
-    let v = operand(regs, n, next);
-    let x = operand(regs, m_of(cell), next);
-    let y = operand(regs, l_of(cell), next);
+    let v = operand(regs, n);
+    let x = operand(regs, m_of(cell));
+    let y = operand(regs, l_of(cell));
     if is_fault(cells.len(), y) | is_fault(cells.len(), x) {
         *told = Told::FAULT;
         return s;

@@ -1,7 +1,9 @@
 -- `ldst::transfer_any` meets its contract: the tests on both pointers pick the case.
+use mathlib.Core.Path.{_∙_}
 use Rattle.cell.specs.Cell.{nOf, mOf, lOf}
 use Rattle.packed.proofs.Laws.{packed-unpacked}
 use Rattle.carried.specs.Left.{before}
+use Rattle.carried.proofs.Operands.{within}
 use Rattle.ldst.proofs.Cases.{Known, faulted, barred, done, usable}
 use borrow.Author.Needs.{needs}
 use Rattle.ldst.proofs.transfer_any.Statement.{statement}
@@ -18,7 +20,7 @@ abbrev v-read : tie.After-is-fault2 → tie.After-operand
 v-read d = x-read d .before .before .before
 
 abbrev start : tie.After-is-fault2 → tie.Start
-start d = v-read d .before .before .before .before .before .before .before
+start d = v-read d .before .before .before .before .before
 
 -- what is known where both pointers were asked about
 known : (d : tie.After-is-fault2) → let a = start d .args in
@@ -29,18 +31,12 @@ known d = record {
   n-is = v-read d .before .before .n-of .ensures .0;
   m-is = x-read d .before .m-of .ensures .0;
   l-is = y-read d .before .l-of .ensures .0;
-  v-is = v-read d .operand .ensures;
-  x-is = x-read d .operand2 .ensures;
-  y-is = y-read d .operand3 .ensures;
+  v-is = v-read d .operand .ensures ∙ within _ _ (v-read d .before .before .n-of .ensures .1);
+  x-is = x-read d .operand2 .ensures ∙ within _ _ (x-read d .before .m-of .ensures .1);
+  y-is = y-read d .operand3 .ensures ∙ within _ _ (y-read d .before .l-of .ensures .1);
   a-is = d .before .is-fault .ensures;
   b-is = d .is-fault2 .ensures;
 }
-
-element-copy-out-next-of : tie.Need-element-copy-out-next-of
-element-copy-out-next-of c = search needs
-
-next-of-requires : tie.Need-next-of-requires
-next-of-requires c κs = search needs
 
 n-of-requires : tie.Need-n-of-requires
 n-of-requires c κs = search needs
@@ -108,8 +104,6 @@ pub transfer-any-spec : {M : Type 1} → statement M
 transfer-any-spec =
     tie.close
     (tie.spec
-    element-copy-out-next-of
-    next-of-requires
     n-of-requires
     operand-requires
     m-of-requires
