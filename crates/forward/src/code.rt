@@ -1,15 +1,12 @@
 // What a run asks of PC and of a store before a step: a profile's code is all that it fetches from, and is not written.
 ghost use mathlib.Core.Path.{_≡_};
-ghost use Prim.Native.Nat.{_<_};
-ghost use Rattle.effect.specs.Operands.{operandOf};
-ghost use Rattle.effect.specs.Refusal.{faults};
 ghost use Rattle.step.specs.Step.{codeOf};
 ghost use Rattle.forward.specs.Inner.{guardedOf, storesBelow};
-use carried::next_of;
+use carried::is_fault;
+use carried::operand;
 use cell::l_of;
 use cell::m_of;
 use cell::opcode_of;
-use machine::Address;
 use machine::Kind;
 
 // How many cells a run may fetch from.
@@ -35,24 +32,6 @@ pub(crate) fn guard_of(kind: Kind) -> usize
         Kind::Plain => 0,
         Kind::Profile(l) => l,
     }
-}
-
-// An operand's value; register 255 is the next PC.
-fn operand(regs: &[u32; 256], i: u32) -> u32
-    requires { ⌜ i < 256 ⌝ }
-    ensures { λ r. ⌜ r ≡ operandOf (now (regs .entry)) i ⌝ }
-{
-    if i == 255 {
-        return next_of(regs[255]);
-    }
-    regs[i as usize]
-}
-
-// Whether a pointer is past the cells and below the special addresses.
-fn is_fault(size: usize, p: u32) -> bool
-    ensures { λ r. ⌜ r ≡ faults size p ⌝ }
-{
-    (size <= p as usize) & (p < Address::FLAGS)
 }
 
 // Whether a cell stores below the guard and neither of its pointers faults, since 5 comes before 61. A plain run is done with one test.

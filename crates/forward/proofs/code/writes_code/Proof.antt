@@ -2,6 +2,7 @@
 -- Assumes nothing.
 use mathlib.Core.Path.{sym, _∙_}
 use borrow.Author.Tests.{ne-eqb}
+use Rattle.carried.proofs.Operands.{within}
 use Rattle.forward.specs.Inner.{storesBelow}
 use Rattle.forward.proofs.Guard.{unguarded, ldst-below}
 use borrow.Author.Needs.{needs}
@@ -29,7 +30,8 @@ cast-if3 c = search needs
 
 returns-3 : tie.Need-returns-3
 returns-3 c =
-    rw (ldst-below _ _ _ _ (sym (c .before .before .before .before .opcode-of .ensures .0) ∙ c .before .before .before .if2 .left), ← c .before .before .m-of .ensures .0, ← c .before .operand .ensures, c .if3 .taken)
+    let m = c .before .before .m-of .ensures in
+    rw (ldst-below _ _ _ _ (sym (c .before .before .before .before .opcode-of .ensures .0) ∙ c .before .before .before .if2 .left), ← m .0, ← c .before .operand .ensures ∙ within _ _ (m .1), c .if3 .taken)
 
 l-of-requires : tie.Need-l-of-requires
 l-of-requires c κs = search needs
@@ -45,7 +47,10 @@ is-fault-requires-2 c κs = search needs
 
 returns-4 : tie.Need-returns-4
 returns-4 c =
-    rw (ldst-below _ _ _ _ (sym (c .before .before .before .before .before .before .before .before .opcode-of .ensures .0) ∙ c .before .before .before .before .before .before .before .if2 .left), ← c .before .before .before .before .before .before .m-of .ensures .0, ← c .before .before .before .before .before .operand .ensures, c .before .before .before .before .if3 .left, ← c .before .before .before .l-of .ensures .0, ← c .before .before .operand2 .ensures, ← c .before .is-fault .ensures, ← c .is-fault2 .ensures)
+    let x-read = c .before .before .before .before .before in
+    let m = x-read .before .m-of .ensures in
+    let l = c .before .before .before .l-of .ensures in
+    rw (ldst-below _ _ _ _ (sym (x-read .before .before .before .opcode-of .ensures .0) ∙ x-read .before .before .if2 .left), ← m .0, ← x-read .operand .ensures ∙ within _ _ (m .1), c .before .before .before .before .if3 .left, ← l .0, ← c .before .before .operand2 .ensures ∙ within _ _ (l .1), ← c .before .is-fault .ensures, ← c .is-fault2 .ensures)
 
 pub writes-code-spec : {M : Type 1} → statement M
 writes-code-spec =
