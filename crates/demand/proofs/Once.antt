@@ -35,8 +35,9 @@ use Rattle.reader.specs.Answers.{readReply, Small}
 use Rattle.reader.proofs.RoundTrip as trips
 use Rattle.machine.specs.declared.Settings.{Settings}
 use Rattle.effect.specs.Action.{Action}
-use Rattle.effect.specs.Operands.{nextOf}
+use Rattle.effect.specs.Operands.{nextOf, operandOf}
 use Rattle.effect.specs.Parts.{flagsOf}
+use Rattle.effect.specs.Refusal.{faults}
 use Rattle.machine.specs.declared.Machine.{Machine}
 use Rattle.call.specs.declared.Ran.{Ran}
 use Rattle.machine.specs.declared.Stop.{Stop}
@@ -168,9 +169,16 @@ take-back-once e regs cells r t after after' kept kept' p q =
     let s = unique (p .0) (q .0) in
     (s, unique (rw s at (p .1)) (q .1), unique (rw s at (p .2)) (q .2))
 
--- the next PC; an entry written and PC moved on, by `move_on` and, with n answered as `n_of` does, by `keep_n`; what an operation wrote, by `carried::put`
+-- the next PC; an operand; whether a pointer faults; an entry written and PC moved on, by `move_on` and, with n answered as `n_of` does, by `keep_n`; what an
+-- operation wrote, by `carried::put`
 pub next-of-once : (pc r t : ℕ) → r ≡ (pc + 1) % 4294967296 → t ≡ (pc + 1) % 4294967296 → r ≡ t
 next-of-once pc r t = unique
+
+pub operand-once : (regs : List ℕ) (i r t : ℕ) → r ≡ operandOf regs (i % 256) → t ≡ operandOf regs (i % 256) → r ≡ t
+operand-once regs i r t = unique
+
+pub fault-once : (size p : ℕ) (r t : Bool) → r ≡ faults size p → t ≡ faults size p → r ≡ t
+fault-once size p r t = unique
 
 pub move-on-once : (before regs : List ℕ) (e : Entry) (part part' after after' : List ℕ)
     → (part ≡ entered before e) × (after ≡ set regs 255 (nextOf regs)) → (part' ≡ entered before e) × (after' ≡ set regs 255 (nextOf regs))
