@@ -4,6 +4,7 @@ use mathlib.Core.List.{List}
 use Prim.Native.Nat.{ℕ, _<_, _≤_}
 use borrow.Author.Tests.{lt-ltb, le-ltb}
 use lib.ListN.{length}
+use Rattle.intake.specs.Intake.{mostInput}
 use Rattle.machine.specs.State.{stateOf}
 use Rattle.call.specs.Calls.{runOf}
 use Rattle.job.specs.declared.Loaded.{Loaded}
@@ -13,7 +14,7 @@ use Rattle.job.specs.Job.{loadOf}
 use Rattle.job.specs.Answers.{loadWith}
 use Rattle.refusal.specs.Refusal.{numberOf}
 use Rattle.refusal.proofs.Named.{numbered}
-use Rattle.outcome.specs.Outcome.{refusedTo, ranTo, outcomeOf, mostInput, budget}
+use Rattle.outcome.specs.Outcome.{refusedTo, ranTo, outcomeOf, budget}
 
 module _ (input cells journal : List ℕ) where
   pub outcome-long : mostInput < length input → outcomeOf input cells journal ≡ refusedTo 50 mostInput cells journal
