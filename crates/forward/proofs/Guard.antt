@@ -9,7 +9,7 @@ use native.Mathlib.Omega.{arith}
 use lib.Dec.{leb, ltb, eqb}
 use lib.ListN.{length}
 use borrow.Author.Tests.{eq-eqb, eqb-true, eqb-false, le-leb, lt-leb, leb-true, leb-false, le-ltb, lt-ltb}
-use Rattle.cell.specs.Cell.{opcodeOf, nOf, mOf, lOf, decodeOf}
+use Rattle.cell.specs.Cell.{opcodeOf, mOf, lOf, decodeOf}
 use Rattle.cell.proofs.Tests.{never}
 use Rattle.machine.specs.declared.Kind.{Kind}
 use Rattle.machine.specs.declared.Kind.the-variants.{Plain, Profile}
@@ -53,13 +53,13 @@ unfolding storesBelow
 unguarded size regs cell = rw (le-ltb (operandOf regs (mOf cell)) 0 (omega arith)) (nothing (eqb (opcodeOf cell) 1) (leb 1 (operandOf regs (mOf cell))) _)
 
 -- the tests of a store, as the code asks them
-not-below : (t : Bool) → (t && false) ≡ false
-not-below true = refl
-not-below false = refl
+pub and-false : (t : Bool) → (t && false) ≡ false
+and-false true = refl
+and-false false = refl
 
 below-by : (x guard : ℕ) (e f : Bool) → eqb x 0 ≡ e → leb guard x ≡ f → (leb 1 x && ltb x guard) ≡ not (e || f)
 below-by x guard true f p q = rw (lt-leb 1 x (omega (arith, eqb-true x 0 p)))
-below-by x guard false true p q = rw (le-ltb x guard (leb-true guard x q)) (not-below (leb 1 x))
+below-by x guard false true p q = rw (le-ltb x guard (leb-true guard x q)) (and-false (leb 1 x))
 below-by x guard false false p q =
     let nonzero : x ≡ 0 → ⊥ = eqb-false x 0 p in
     rw (le-leb 1 x (omega arith), lt-ltb x guard (leb-false guard x q))

@@ -2,7 +2,7 @@
 -- Assumes nothing.
 use Prim.Native.Nat.{ℕ, suc, _+_, _-_, _≤_, _<_}
 use mathlib.Core.Path.{_≡_, refl}
-use mathlib.Core.Bool.{Bool, true, false, cond, _&&_}
+use mathlib.Core.Bool.{Bool, true, false, cond}
 use mathlib.Core.List.{List}
 use mathlib.Core.Logic.{_⊎_, inl, inr}
 use mathlib.Core.Option.{some}
@@ -21,6 +21,7 @@ use Rattle.step.proofs.Steps.{refused-with, at-end, off-code, full}
 use Rattle.call.specs.Calls.{stopAt, goOn, runFrom}
 use Rattle.carried.specs.Left.{toldInt, toldFault}
 use Rattle.forward.specs.Inner.{heldOf, trapped, stopping, movedBy, endsBy, finalOf, resumeOf, numberOf}
+use Rattle.forward.proofs.Guard.{and-false}
 
 -- a step that does not stop the run
 module _ (kind : Kind) (n k told : ℕ) (regs : List ℕ) (s cell depth : ℕ) (cells journal : List ℕ) (st : State)
@@ -38,10 +39,6 @@ module _ (kind : Kind) (n k told : ℕ) (regs : List ℕ) (s cell depth : ℕ) (
       go false = refl
 
 -- a run that has not ended is the definition's
-and-false : (t : Bool) → (t && false) ≡ false
-and-false true = refl
-and-false false = refl
-
 pub not-ended : (kind : Kind) (n k : ℕ) (regs : List ℕ) (s depth : ℕ) (cells journal : List ℕ) → pcOf regs < firstSpecial
     → resumeOf kind n k regs s depth cells journal ≡ runFrom kind n k (heldOf regs s depth cells journal)
 unfolding resumeOf

@@ -44,8 +44,8 @@ fn put_reserved(line: &mut [u8; 24], cell: u32) -> usize
     put(line, a, b"\n")
 }
 
-// Puts a cell's line, and answers its length.
-fn put_line(line: &mut [u8; 24], cell: u32) -> usize
+// Puts a cell's line into room for the longest, and answers its length.
+pub fn put_line(line: &mut [u8; 24], cell: u32) -> usize
     ensures { λ r. ⌜ Added (now (line .entry)) 0 (lineOf cell) (now (line .exit)) r ⌝ }
 {
     let instruction = cell::decode(cell);

@@ -14,7 +14,8 @@ use Rattle.job.specs.Job.{loadOf}
 use Rattle.job.specs.Answers.{loadWith}
 use Rattle.refusal.specs.Refusal.{numberOf}
 use Rattle.refusal.proofs.Named.{numbered}
-use Rattle.outcome.specs.Outcome.{refusedTo, ranTo, outcomeOf, mostInput, budget}
+use Rattle.intake.specs.Intake.{mostInput}
+use Rattle.outcome.specs.Outcome.{refusedTo, ranTo, outcomeOf, budget}
 
 module _ (input cells journal : List ℕ) where
   pub outcome-long : mostInput < length input → outcomeOf input cells journal ≡ refusedTo 50 mostInput cells journal

@@ -1,4 +1,4 @@
--- How long the lines are: a refusal has at most 53 bytes, the line of a run 84, that of a register 16.
+-- How long the lines are: that of a run has at most 84 bytes, that of a register 16.
 use mathlib.Core.Path.{_≡_, refl}
 use mathlib.Core.Bool.{Bool, true, false}
 use mathlib.Core.List.{List, _++_}
@@ -7,13 +7,7 @@ use native.Mathlib.Omega.{arith}
 use lib.Dec.{eqb}
 use lib.ListN.{length, length-append}
 use Rattle.text.proofs.Decimal.{decimal-length}
-use Rattle.outcome.specs.Told.{refusedText, exitText, registerText, longest}
-
-pub refused-short : (number offset : ℕ) → number < 2 ^ 64 → offset < 2 ^ 64 → length (refusedText number offset) ≤ longest
-refused-short number offset h k =
-    let a = decimal-length 19 number (omega arith) in
-    let b = decimal-length 19 offset (omega arith) in
-    simp length-append (omega arith)
+use Rattle.outcome.specs.Told.{exitText, registerText, longest}
 
 pub exit-short : (stop count pc flags : ℕ) → stop < 2 ^ 64 → count < 2 ^ 64 → pc < 2 ^ 32 → flags < 2 ^ 32 → length (exitText stop count pc flags) ≤ 84
 exit-short stop count pc flags hs hc hp hf =

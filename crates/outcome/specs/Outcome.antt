@@ -8,21 +8,16 @@ use Rattle.machine.specs.declared.Machine.{Machine}
 use Rattle.machine.specs.declared.Kind.the-variants.{Plain}
 use Rattle.machine.specs.State.{freshMachine, stateOf}
 use Rattle.machine.specs.Stops.{Said}
+use Rattle.intake.specs.Intake.{mostInput}
 use Rattle.call.specs.Calls.{Out, runOf}
 use Rattle.job.specs.Job.{Load, loadOf}
 
--- what is lent and granted: cells, entries of eight words, the budget, and the longest input in bytes
-abbrev pub cellCount : ℕ
-cellCount = 4096
-
+-- what is lent and granted: entries of eight words, and the budget
 abbrev pub entryCount : ℕ
 entryCount = 400
 
 abbrev pub budget : ℕ
 budget = 400
-
-abbrev pub mostInput : ℕ
-mostInput = 32768
 
 -- a job is refused, with a number and an offset; or run, with the stop and the count
 pub data End : Type 0 where

@@ -7,11 +7,8 @@ use lib.ListN.{length, take, replicate}
 use Rattle.machine.specs.declared.Machine.{Machine}
 use Rattle.machine.specs.State.{pcOf}
 use Rattle.text.specs.Text.{bytes, named, Added}
-use Rattle.outcome.specs.Outcome.{End, refused, ran, Outcome, outcomeOf, cellCount, entryCount}
-
--- a refusal, as `refused 41 at 0`
-abbrev pub refusedText : ℕ → ℕ → List ℕ
-refusedText number offset = named "refused " number ++ named " at " offset ++ bytes "\n"
+use Rattle.intake.specs.Intake.{cellCount, refusedText}
+use Rattle.outcome.specs.Outcome.{End, refused, ran, Outcome, outcomeOf, entryCount}
 
 -- the first line of a run, as `exit 1 steps 3 pc 4294901763 flags 256`
 abbrev pub exitText : ℕ → ℕ → ℕ → ℕ → List ℕ

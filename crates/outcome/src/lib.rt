@@ -8,9 +8,10 @@ ghost use Rattle.outcome.specs.Told.{toldOf, Told};
 
 mod lines;
 
+use intake::Intake;
+use intake::put_refused;
 use job::Answer;
 use lines::put_ran;
-use lines::put_refused;
 use machine::Machine;
 use machine::Stop;
 
@@ -19,7 +20,7 @@ use machine::Stop;
 pub struct Sizes;
 
 impl Sizes {
-    pub const CELLS: usize = 4096;
+    pub const CELLS: usize = Intake::CELLS;
 
     pub const ENTRIES: usize = 400;
 
@@ -27,7 +28,7 @@ impl Sizes {
 
     pub const BUDGET: u64 = 400;
 
-    pub const INPUT: usize = 32768;
+    pub const INPUT: usize = Intake::INPUT;
 
     pub const TEXT: usize = 4164;
 }

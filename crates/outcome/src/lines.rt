@@ -3,20 +3,11 @@ ghost use Prim.Native.Nat.{_≤_, _<_};
 ghost use lib.ListN.{length, take};
 ghost use Rattle.machine.specs.Stops.{saidOf};
 ghost use Rattle.text.specs.Text.{Added};
-ghost use Rattle.outcome.specs.Told.{refusedText, exitText, registerText, registersText, ranText, Told};
+ghost use Rattle.outcome.specs.Told.{exitText, registerText, registersText, ranText, Told};
 use machine::Machine;
 use machine::Stop;
 use text::put;
 use text::put_number;
-
-// Puts the line of a refusal.
-pub(crate) fn put_refused(text: &mut [u8], at: usize, number: u64, offset: u64) -> usize
-    ensures { λ r. ⌜ Told (now (text .entry)) at (refusedText number offset) (now (text .exit)) r ⌝ }
-{
-    let a = put_number(text, at, b"refused ", number);
-    let b = put_number(text, a, b" at ", offset);
-    put(text, b, b"\n")
-}
 
 // Puts the line of a run.
 fn put_exit(text: &mut [u8], at: usize, stop: u64, count: u64, pc: u32, flags: u32) -> usize

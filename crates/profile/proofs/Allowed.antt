@@ -95,3 +95,9 @@ module _ (l : ℕ) (cells : List ℕ) where
   bad-cell p f e =
       by-length l cells (BadCell p f) e (λ z. never (cc))
       (λ s z. let b = bad-first cells l 0 p f z in (omega arith, b .2, λ i h. b .3 i (omega arith) h))
+
+  -- which is in memory
+  pub bad-inside : (p : ℕ) (f : Flaw) → ruleOf l cells ≡ BadCell p f → p < length cells
+  bad-inside p f e =
+      by-length l cells (BadCell p f) e (λ z. never (cc))
+      (λ s z. let b = bad-first cells l 0 p f z in let below : p < 0 + l = b .1 in let fits : l ≤ length cells = s .1 in omega arith)

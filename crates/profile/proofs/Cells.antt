@@ -11,7 +11,8 @@ use borrow.Author.Tests.{ltb-false, eqb-false}
 use Rattle.cell.proofs.Tests.{never}
 use Rattle.profile.specs.Profile.{judgedOf, orBad, firstBad, badLength, ruleOf}
 
-neither : (a b : Bool) → a || b ≡ false → (a ≡ false) × (b ≡ false)
+-- of two tests neither holds
+pub neither : (a b : Bool) → a || b ≡ false → (a ≡ false) × (b ≡ false)
 neither true b e = never (cc)
 neither false b e = (refl, e)
 

@@ -1,4 +1,5 @@
 -- `outcome::put_outcome` meets its contract: each end has its text.
+use native.Mathlib.Omega.{arith}
 use borrow.Author.Needs.{needs}
 use Rattle.outcome.proofs.put_outcome.Statement.{statement}
 use Rattle.outcome.proofs.put_outcome.Tie as tie
@@ -19,7 +20,9 @@ same-length : tie.Need-same-length
 same-length c = search needs
 
 returns : tie.Need-returns
-returns c = rw (c .before .before .before .before .before .end .given .1) (c .before .before .put-refused .ensures)
+returns c =
+    let e = c .before .before .put-refused .ensures in
+    rw (c .before .before .before .before .before .end .given .1) (record { added = e .0; short = omega (arith, e .1) })
 
 same-length-2 : tie.Need-same-length-2
 same-length-2 c = search needs

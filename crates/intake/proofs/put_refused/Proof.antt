@@ -1,9 +1,9 @@
--- `outcome::lines::put_refused` meets its contract: the pieces, put one after the other, are the line.
+-- `intake::put_refused` meets its contract: the pieces, put one after the other, are the line.
 use Rattle.text.proofs.Adds.{added-then}
-use Rattle.outcome.proofs.Lengths.{refused-short}
+use Rattle.intake.proofs.Lengths.{refused-short}
 use borrow.Author.Needs.{needs}
-use Rattle.outcome.proofs.lines.put_refused.Statement.{statement}
-use Rattle.outcome.proofs.lines.put_refused.Tie as tie
+use Rattle.intake.proofs.put_refused.Statement.{statement}
+use Rattle.intake.proofs.put_refused.Tie as tie
 
 slice-aggregate-put-number : tie.Need-slice-aggregate-put-number
 slice-aggregate-put-number c = search needs
@@ -28,10 +28,7 @@ same-length c = search needs
 
 returns : tie.Need-returns
 returns c = let s = c .before .before .before .before .before .before .before .before .before .before .before .before .before .before .before .before in
-    record {
-      added = added-then _ _ (added-then _ _ (c .before .before .before .before .before .before .before .before .before .before .before .before .put-number .ensures) (c .before .before .before .before .before .before .before .put-number2 .ensures)) (c .before .before .put .ensures);
-      short = refused-short (s .args .number) (s .args .offset) (s .fits .number .fits) (s .fits .offset .fits);
-    }
+    (added-then _ _ (added-then _ _ (c .before .before .before .before .before .before .before .before .before .before .before .before .put-number .ensures) (c .before .before .before .before .before .before .before .put-number2 .ensures)) (c .before .before .put .ensures), refused-short (s .args .number) (s .args .offset) (s .fits .number .fits) (s .fits .offset .fits))
 
 pub put-refused-spec : {M : Type 1} → statement M
 put-refused-spec =

@@ -1,0 +1,3 @@
+pub mod Length
+pub mod Verdict
+pub mod Told
