@@ -13,7 +13,7 @@ use Rattle.cell.specs.Cell.{legal, immediate, formOf, opcodeOf, nOf, mOf, lOf, 
 use Rattle.cell.proofs.Tests.{count, everywhere, never}
 use Rattle.effect.specs.Action.{Action, Cpswp, Ldst, Put, Operate, Split, Bz, Int, Float, Illegal, actionOf}
 
-abbrev is-reserved : Form → Bool
+abbrev pub is-reserved : Form → Bool
 is-reserved form.Registers = false
 is-reserved form.Immediate = false
 is-reserved form.Reserved = true
@@ -36,7 +36,7 @@ is-illegal Illegal = true
 
 -- the opcode x in a form, with any operands
 module _ (n m l imm c : ℕ) where
-  abbrev read : Form → ℕ → Instruction
+  abbrev pub read : Form → ℕ → Instruction
   read form.Registers x = Registers x n m l
   read form.Immediate x = Immediate x n imm
   read form.Reserved x = Reserved c
@@ -49,7 +49,7 @@ module _ (n m l imm c : ℕ) where
   all-follow = refl
 
 module _ (c : ℕ) where
-  read-as : (f : Form) → read (nOf c) (mOf c) (lOf c) (immOf c) c f (opcodeOf c) ≡ readAs f c
+  pub read-as : (f : Form) → read (nOf c) (mOf c) (lOf c) (immOf c) c f (opcodeOf c) ≡ readAs f c
   read-as form.Registers = refl
   read-as form.Immediate = refl
   read-as form.Reserved = refl

@@ -10,22 +10,15 @@ use denote.Enum.Declared.{tagOf}
 use Rattle.word.specs.Word.{opOf, askedOf}
 use Rattle.cell.specs.declared.Form.{Form}
 use Rattle.cell.specs.declared.Form.the-variants as form
-use Rattle.cell.specs.declared.Instruction.{Instruction}
-use Rattle.cell.specs.declared.Instruction.the-variants.{Registers, Immediate, Reserved}
-use Rattle.cell.specs.Cell.{legal, immediate, formOf, opcodeOf, nOf, mOf, lOf, immOf, readAs, decodeOf}
+use Rattle.cell.specs.Cell.{legal, immediate, formOf, opcodeOf, nOf, mOf, lOf, immOf, decodeOf}
 use Rattle.cell.proofs.Form.{the-type}
 use Rattle.effect.specs.Action.{actionOf}
-use Rattle.effect.proofs.Forms.{reserved-illegal}
+use Rattle.effect.proofs.Forms.{is-reserved, read, read-as, reserved-illegal}
 use Rattle.profile.specs.declared.Flaw.the-variants as flaw
 use Rattle.profile.specs.declared.Judged.{Judged}
 use Rattle.profile.specs.declared.Judged.the-variants.{Allowed, Flawed}
 use Rattle.profile.specs.Profile.{into, ahead, judgedBy, judgedOf}
 use Rattle.profile.proofs.Table.{table, agree}
-
-abbrev isReserved : Form → Bool
-isReserved form.Registers = false
-isReserved form.Immediate = false
-isReserved form.Reserved = true
 
 -- the opcode x with any operands: the tests on a legal one, and the definition
 module _ (n m l imm c : ℕ) where
@@ -38,34 +31,24 @@ module _ (n m l imm c : ℕ) where
       (cond (eqb x 54 || eqb x 107) (into m (into l Allowed))
       (cond (eqb x 4 && eqb imm 65535) Allowed (into n Allowed))))))
 
-  abbrev read : Form → ℕ → Instruction
-  read form.Registers x = Registers x n m l
-  read form.Immediate x = Immediate x n imm
-  read form.Reserved x = Reserved c
-
   abbrev tested : ℕ → Judged
-  tested x = cond (isReserved (formOf x)) (Flawed flaw.Reserved) (tests x)
+  tested x = cond (is-reserved (formOf x)) (Flawed flaw.Reserved) (tests x)
 
   abbrev judged : ℕ → Judged
-  judged x = judgedBy (actionOf (read (formOf x) x))
+  judged x = judgedBy (actionOf (read n m l imm c (formOf x) x))
 
   one-table : table judged 256 ≡ table tested 256
   unfolding formOf legal immediate actionOf askedOf opOf judgedBy
   one-table = refl
 
 module _ (c : ℕ) where
-  read-as : (f : Form) → read (nOf c) (mOf c) (lOf c) (immOf c) c f (opcodeOf c) ≡ readAs f c
-  read-as form.Registers = refl
-  read-as form.Immediate = refl
-  read-as form.Reserved = refl
-
   by-tests : c < 2 ^ 32 → judgedOf c ≡ tested (nOf c) (mOf c) (lOf c) (immOf c) c (opcodeOf c)
   unfolding judgedOf decodeOf
   by-tests fits =
-      rw (← read-as (formOf (opcodeOf c)))
+      rw (← read-as c (formOf (opcodeOf c)))
       (agree (judged (nOf c) (mOf c) (lOf c) (immOf c) c) (tested (nOf c) (mOf c) (lOf c) (immOf c) c) 256 (one-table (nOf c) (mOf c) (lOf c) (immOf c) c) (opcodeOf c) (omega arith))
 
-unreserved : (f : Form) → (tagOf the-type f ≡ 0) ⊎ (tagOf the-type f ≡ 1) → isReserved f ≡ false
+unreserved : (f : Form) → (tagOf the-type f ≡ 0) ⊎ (tagOf the-type f ≡ 1) → is-reserved f ≡ false
 unreserved form.Registers e = refl
 unreserved form.Immediate e = refl
 unreserved form.Reserved (inl e) = absurd (omega arith)
