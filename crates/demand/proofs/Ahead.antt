@@ -175,28 +175,28 @@ allowed-in l s c h = c .allowed (pcOf (s .regs)) h
 
 -- an allowed action answers nothing of its own, and is no float arithmetic
 module _ (s : State) where
-  abbrev GoesOn : Effect → Type 0
-  GoesOn e = e .answer ≡ Onward
+  abbrev Silent : Effect → Type 0
+  Silent e = e .answer ≡ Onward
 
-  stores-on : (p v : ℕ) → GoesOn (store p v (still s))
+  stores-on : (p v : ℕ) → Silent (store p v (still s))
   stores-on p v =
-      picked GoesOn (eqb p 0) _ _ (λ t. refl) (λ t.
-      picked GoesOn (eqb p maskAddress) _ _ (λ t. refl) (λ t.
-      picked GoesOn (eqb p modeAddress) _ _ (λ t. refl) (λ t. refl)))
+      picked Silent (eqb p 0) _ _ (λ t. refl) (λ t.
+      picked Silent (eqb p maskAddress) _ _ (λ t. refl) (λ t.
+      picked Silent (eqb p modeAddress) _ _ (λ t. refl) (λ t. refl)))
 
-  loads-on : (p n v : ℕ) (e : Effect) → GoesOn e → GoesOn (load p n v e)
-  loads-on p n v e h = picked GoesOn (eqb p 0) _ _ (λ t. h) (λ t. h)
+  loads-on : (p n v : ℕ) (e : Effect) → Silent e → Silent (load p n v e)
+  loads-on p n v e h = picked Silent (eqb p 0) _ _ (λ t. h) (λ t. h)
 
-  goes-on : (a : Action) → judgedBy a ≡ Allowed → GoesOn (effectOf a s)
+  goes-on : (a : Action) → judgedBy a ≡ Allowed → Silent (effectOf a s)
   unfolding effectOf judgedBy
   goes-on (Cpswp n m k) h = refl
   goes-on (Ldst n m k) h =
-      picked GoesOn (illegalLoad (reg s k) || illegalStore (reg s m) (reg s n)) _ _ (λ t. refl)
+      picked Silent (illegalLoad (reg s k) || illegalStore (reg s m) (reg s n)) _ _ (λ t. refl)
       (λ t. loads-on (reg s k) n _ (store (reg s m) (reg s n) (still s)) (stores-on (reg s m) (reg s n)))
   goes-on (Put n v) h = refl
   goes-on (Operate op n x y) h = refl
   goes-on (Split x n m k) h = refl
-  goes-on (Bz n imm) h = picked GoesOn (eqb (reg s n) 0) _ _ (λ t. refl) (λ t. refl)
+  goes-on (Bz n imm) h = picked Silent (eqb (reg s n) 0) _ _ (λ t. refl) (λ t. refl)
   goes-on (Int n imm) h = flawed-allowed h
   goes-on Float h = flawed-allowed h
   goes-on Illegal h = flawed-allowed h

@@ -9,7 +9,7 @@ use native.Mathlib.Omega.{arith}
 use borrow.Author.Tests.{lt-ltb, le-leb}
 use Rattle.text.specs.Text.{decimal}
 use Rattle.text.proofs.Decimal.{below-ten, decimal-small, decimal-large, decimal-next}
-use Rattle.verdict.specs.Length.{grown, goesOn, numberFrom, askedOf}
+use Rattle.verdict.specs.Length.{grown, goesOn, numberFrom, lengthIn}
 use Rattle.verdict.proofs.Numbers.{went-on}
 
 -- a number is read on by a byte that goes on
@@ -46,9 +46,9 @@ module _ (most : ℕ) (small : most < 10 ^ 20) where
       rw (on most v b s e) (sym (append-assoc (decimal v) (b ∷ []) s) ∙ ap (λ (t : List ℕ). t ++ s) (sym more) ∙ spelled (grown v b) s some rest))
 
   -- an argument that says L is L's decimal number
-  pub asked-decimal : (argument : List ℕ) → 0 < askedOf most argument → argument ≡ decimal (askedOf most argument)
-  asked-decimal [] h = let z : numberFrom most 0 [] ≡ 0 = ends most 0 in absurd (omega arith)
-  asked-decimal (b ∷ s) h =
+  pub length-decimal : (argument : List ℕ) → 0 < lengthIn most argument → argument ≡ decimal (lengthIn most argument)
+  length-decimal [] h = let z : numberFrom most 0 [] ≡ 0 = ends most 0 in absurd (omega arith)
+  length-decimal (b ∷ s) h =
       step most 0 b s h
       (λ e.
       let d = went-on most 0 b e in
@@ -75,13 +75,13 @@ module _ (most : ℕ) (small : most < 10 ^ 20) where
       on most v (48 + d) [] goes ∙ ends most (grown v (48 + d)) ∙ same
 
   -- and L's decimal number says L
-  pub decimal-asked : (k l : ℕ) → l ≤ k → 0 < l → l ≤ most → askedOf most (decimal l) ≡ l
-  decimal-asked zero l h some fits = absurd (omega arith)
-  decimal-asked (suc k) l h some fits =
+  pub decimal-read : (k l : ℕ) → l ≤ k → 0 < l → l ≤ most → lengthIn most (decimal l) ≡ l
+  decimal-read zero l h some fits = absurd (omega arith)
+  decimal-read (suc k) l h some fits =
       ⊎-elim
       (λ (few : l < 10). rw (decimal-small l few) (digit-read 0 l few (omega arith) (omega arith) ∙ omega arith))
       (λ (many : 10 ≤ l).
-      let front : askedOf most (decimal (l / 10)) ≡ l / 10 = decimal-asked k (l / 10) (omega arith) (omega arith) (omega arith) in
+      let front : lengthIn most (decimal (l / 10)) ≡ l / 10 = decimal-read k (l / 10) (omega arith) (omega arith) (omega arith) in
       let there : 0 < numberFrom most 0 (decimal (l / 10)) = rw front (omega arith) in
       rw (decimal-large l many (omega arith), joined 0 (decimal (l / 10)) ((48 + l % 10) ∷ []) there, front)
       (digit-read (l / 10) (l % 10) (omega arith) (omega arith) (omega arith) ∙ omega arith))

@@ -21,8 +21,8 @@ numberFrom most v [] = v
 numberFrom most v (b ∷ text) = cond (goesOn most v b) (numberFrom most (grown v b) text) 0
 
 -- what an argument says
-abbrev pub askedOf : ℕ → List ℕ → ℕ
-askedOf most argument = numberFrom most 0 argument
+abbrev pub lengthIn : ℕ → List ℕ → ℕ
+lengthIn most argument = numberFrom most 0 argument
 
 -- a job's first record is of kind 1, in bytes 4 and 5, and its base, in bytes 6 and 7, is cell 0
 abbrev pub startsAtZero : List ℕ → Bool

@@ -11,7 +11,7 @@ use Rattle.profile.specs.declared.Rule.the-variants as rule
 use Rattle.profile.specs.Profile.{ruleOf}
 use Rattle.verdict.specs.declared.Verdict.{Verdict}
 use Rattle.verdict.specs.declared.Verdict.the-variants.{Refused, NoStart, BadLength, ForwardOnly, BadCell}
-use Rattle.verdict.specs.Length.{askedOf, startsAtZero, firstCount}
+use Rattle.verdict.specs.Length.{lengthIn, startsAtZero, firstCount}
 
 -- what the check of the first l cells says, with l, with the most that it may be, and with the bad cell
 abbrev pub ruledTo : Rule → ℕ → List ℕ → Verdict
@@ -27,7 +27,7 @@ unfoldable pub foundIn : List ℕ → List ℕ → List ℕ → Verdict
 foundIn job argument cells =
     cond (eqb (length argument) 0)
     (cond (startsAtZero job) (checkedTo (firstCount job) cells) NoStart)
-    (checkedTo (askedOf (length cells) argument) cells)
+    (checkedTo (lengthIn (length cells) argument) cells)
 
 -- a job that a load refuses is refused; else its cells are checked
 abbrev pub loadedTo : Load → List ℕ → List ℕ → Verdict

@@ -2,7 +2,7 @@
 ghost use mathlib.Core.Path.{_≡_};
 ghost use Prim.Native.Nat.{_≤_};
 ghost use Rattle.machine.specs.State.{mostCells};
-ghost use Rattle.verdict.specs.Length.{goesOn, askedOf, startsAtZero, firstCount};
+ghost use Rattle.verdict.specs.Length.{goesOn, lengthIn, startsAtZero, firstCount};
 
 // Whether a byte is a digit that makes a number from 1 to the most after a value.
 fn goes_on(value: usize, b: u8, most: usize) -> bool
@@ -17,9 +17,9 @@ fn goes_on(value: usize, b: u8, most: usize) -> bool
 }
 
 // The number from 1 to the most that an argument's digits make, or 0.
-pub(crate) fn asked(argument: &[u8], most: usize) -> usize
+pub(crate) fn length_in(argument: &[u8], most: usize) -> usize
     requires { ⌜ most ≤ mostCells ⌝ }
-    ensures { λ r. ⌜ r ≡ askedOf most (now (argument .entry)) ⌝ }
+    ensures { λ r. ⌜ r ≡ lengthIn most (now (argument .entry)) ⌝ }
 {
     let mut value = 0;
     let mut i = 0;

@@ -10,8 +10,8 @@ ghost use Rattle.verdict.specs.Told.{toldOf, Told};
 mod found;
 mod lines;
 
-use found::asked;
 use found::first_count;
+use found::length_in;
 use found::starts_at_zero;
 use intake::Intake;
 use intake::put_refused;
@@ -63,7 +63,7 @@ fn check_loaded(job: &[u8], argument: &[u8], cells: &[u32]) -> Verdict
         }
         return Verdict::NoStart;
     }
-    check_cells(asked(argument, cells.len()), cells)
+    check_cells(length_in(argument, cells.len()), cells)
 }
 
 // Loads a job into the cells and checks the code that begins at cell 0, of as many cells as the argument says.

@@ -22,15 +22,15 @@ returns-2 : tie.Need-returns-2
 unfolding foundIn
 returns-2 c = rw (eq-eqb _ 0 (c .before .before .if1 .taken), ← c .before .starts-at-zero .ensures, c .if2 .left)
 
-asked-requires : tie.Need-asked-requires
-asked-requires c κs = search needs
+length-in-requires : tie.Need-length-in-requires
+length-in-requires c κs = search needs
 
 check-cells-requires-2 : tie.Need-check-cells-requires-2
 check-cells-requires-2 c κs = search needs
 
 returns-3 : tie.Need-returns-3
 unfolding foundIn
-returns-3 c = rw (c .check-cells2 .ensures, c .before .asked .ensures, ne-eqb _ 0 (c .before .before .if1 .left))
+returns-3 c = rw (c .check-cells2 .ensures, c .before .length-in .ensures, ne-eqb _ 0 (c .before .before .if1 .left))
 
 pub check-loaded-spec : {M : Type 1} → statement M
 check-loaded-spec =
@@ -41,6 +41,6 @@ check-loaded-spec =
     check-cells-requires
     returns
     returns-2
-    asked-requires
+    length-in-requires
     check-cells-requires-2
     returns-3)

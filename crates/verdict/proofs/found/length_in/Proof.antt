@@ -1,4 +1,4 @@
--- `verdict::found::asked` meets its contract: the digits that are left give the number of the whole.
+-- `verdict::found::length_in` meets its contract: the digits that are left give the number of the whole.
 use Prim.Native.Nat.{_≤_, _-_}
 use mathlib.Core.Path.{_≡_, refl, sym, _∙_}
 use native.Mathlib.Omega.{arith}
@@ -7,8 +7,8 @@ use lib.ListN.{length, getD, drop}
 use borrow.Author.Tests.{not-true, not-false}
 use Rattle.verdict.specs.Length.{numberFrom}
 use Rattle.verdict.proofs.Numbers.{Digit, went-on, next, at-end}
-use Rattle.verdict.proofs.found.asked.Statement.{statement}
-use Rattle.verdict.proofs.found.asked.Tie as tie
+use Rattle.verdict.proofs.found.length_in.Statement.{statement}
+use Rattle.verdict.proofs.found.length_in.Tie as tie
 
 abbrev Inv-loop : tie.InvT-loop
 Inv-loop argument most value₀ i₀ value i = (i ≤ length argument) × (value ≤ most) × (numberFrom most value (drop i argument) ≡ numberFrom most 0 argument)
@@ -56,8 +56,8 @@ loop-again c = (omega arith, digit c .fits, rw (next _ _ _ _ (c .before .before 
 returns-2 : tie.Need-returns-2 Inv-loop μ-loop
 returns-2 c = sym (at-end _ _ _ _ (c .loop-test .left)) ∙ c .before .loop .inv .2
 
-pub asked-spec : {M : Type 1} → statement M
-asked-spec =
+pub length-in-spec : {M : Type 1} → statement M
+length-in-spec =
     tie.close
     (tie.spec
     Inv-loop
