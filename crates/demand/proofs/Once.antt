@@ -52,6 +52,8 @@ use Rattle.machine.specs.declared.Kind.{Kind}
 use Rattle.profile.specs.declared.Judged.{Judged}
 use Rattle.profile.specs.declared.Rule.{Rule}
 use Rattle.profile.specs.Profile.{judgedOf, ruleOf}
+use Rattle.step.specs.Step.{codeOf}
+use Rattle.guard.specs.Guard.{guardedOf, storesBelow}
 use Rattle.call.specs.Calls.{checkOf, saidBy, beginsOf, runOf, backOf}
 use Rattle.call.specs.Answers.{checkedOf, outOf}
 use Rattle.call.proofs.Named as calls
@@ -225,6 +227,16 @@ check-once m s j depth r t p q = calls.checked-once r t (unique p q)
 pub begins-once : (kind : Kind) (cells : List ℕ) (s : Settings) (j depth : ℕ) (r t : Checked) → checkedOf r ≡ beginsOf kind cells s j depth
     → checkedOf t ≡ beginsOf kind cells s j depth → r ≡ t
 begins-once kind cells s j depth r t p q = calls.checked-once r t (unique p q)
+
+-- what a run asks before a step
+pub limit-once : (kind : Kind) (size r t : ℕ) → r ≡ codeOf kind size → t ≡ codeOf kind size → r ≡ t
+limit-once kind size r t = unique
+
+pub guard-once : (kind : Kind) (r t : ℕ) → r ≡ guardedOf kind → t ≡ guardedOf kind → r ≡ t
+guard-once kind r t = unique
+
+pub writes-once : (guard size : ℕ) (regs : List ℕ) (cell : ℕ) (r t : Bool) → r ≡ storesBelow guard size regs cell → t ≡ storesBelow guard size regs cell → r ≡ t
+writes-once guard size regs cell r t = unique
 
 pub lesser-once : (number most r t : ℕ) → r ≡ min number most → t ≡ min number most → r ≡ t
 lesser-once number most r t = unique

@@ -1,4 +1,3 @@
-pub mod Guard
 pub mod Told
 pub mod Steps
 pub mod Runs

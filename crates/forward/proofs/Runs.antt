@@ -21,7 +21,7 @@ use Rattle.step.proofs.Steps.{refused-with, at-end, off-code, full}
 use Rattle.call.specs.Calls.{stopAt, goOn, runFrom}
 use Rattle.carried.specs.Left.{toldInt, toldFault}
 use Rattle.forward.specs.Inner.{heldOf, trapped, stopping, movedBy, endsBy, finalOf, resumeOf, numberOf}
-use Rattle.forward.proofs.Guard.{and-false}
+use Rattle.guard.proofs.Guarded.{and-false}
 
 -- a step that does not stop the run
 module _ (kind : Kind) (n k told : ℕ) (regs : List ℕ) (s cell depth : ℕ) (cells journal : List ℕ) (st : State)

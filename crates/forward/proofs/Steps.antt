@@ -35,8 +35,9 @@ use Rattle.step.specs.Step.{codeOf, guardOf, going, stopped, effectIn, refusalO
 use Rattle.step.proofs.Steps.{refused-with, done-with, looked-at}
 use Rattle.carried.specs.Left.{Left, left, leftOf, doneBy, before, toldBy, toldInt, toldFault, toldRefused}
 use Rattle.carried.proofs.Operands.{read}
-use Rattle.forward.specs.Inner.{heldOf, refusalBy, courseBy, movedBy, guardedOf, storesBelow}
-use Rattle.forward.proofs.Guard.{passes, caught}
+use Rattle.forward.specs.Inner.{heldOf, refusalBy, courseBy, movedBy}
+use Rattle.guard.specs.Guard.{guardedOf, storesBelow}
+use Rattle.guard.proofs.Guarded.{passes, caught}
 use Rattle.forward.proofs.Told.{plain, five-or-six}
 
 -- a step, from what it left, with the journal that it left

@@ -5,13 +5,10 @@ use mathlib.Core.List.{List}
 use lib.Bits.{bitAnd}
 use lib.Dec.{leb, ltb, eqb}
 use lib.ListN.{getD}
-use Rattle.cell.specs.Cell.{opcodeOf, nOf, mOf, lOf, immOf}
+use Rattle.cell.specs.Cell.{nOf, immOf}
 use Rattle.machine.specs.State.{State, stateWith, firstSpecial, pcOf}
 use Rattle.machine.specs.Stops.{Said, plainly, interrupted}
 use Rattle.machine.specs.declared.Kind.{Kind}
-use Rattle.machine.specs.declared.Kind.the-variants.{Plain, Profile}
-use Rattle.effect.specs.Operands.{operandOf}
-use Rattle.effect.specs.Refusal.{faults}
 use Rattle.packed.specs.Packed.{unpackedOf}
 use Rattle.journal.specs.Journal.{endedOf, settledOf}
 use Rattle.step.specs.Step.{outside, Course, going, stopped, refused, Moved}
@@ -74,15 +71,3 @@ numberOf kind done budget limit pc =
     (cond (eqb done budget) 0
     (cond (leb firstSpecial pc) 1
     (cond (leb limit pc) (outside kind) 7)))
-
--- how many cells a run may not store to
-abbrev pub guardedOf : Kind → ℕ
-guardedOf Plain = 0
-guardedOf (Profile l) = l
-
--- the cell is an LDST that stores below the guard, and neither of its pointers faults
-unfoldable pub storesBelow : ℕ → ℕ → List ℕ → ℕ → Bool
-storesBelow guard size regs cell =
-    eqb (opcodeOf cell) 1
-    && (leb 1 (operandOf regs (mOf cell)) && ltb (operandOf regs (mOf cell)) guard)
-    && not (faults size (operandOf regs (lOf cell)) || faults size (operandOf regs (mOf cell)))

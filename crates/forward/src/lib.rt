@@ -9,7 +9,6 @@ ghost use Rattle.call.specs.Calls.{runFrom, runOf};
 ghost use Rattle.call.specs.Answers.{outOf};
 
 mod after;
-mod code;
 
 use after::finish;
 use after::halt;
@@ -19,9 +18,9 @@ use call::Checked;
 use call::Ran;
 use call::check_run;
 use call::lesser;
-use code::guard_of;
-use code::limit_of;
-use code::writes_code;
+use guard::guard_of;
+use guard::limit_of;
+use guard::writes_code;
 use instruction::carry_out;
 use journal::Entry;
 use machine::Kind;

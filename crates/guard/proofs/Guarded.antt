@@ -19,7 +19,7 @@ use Rattle.effect.specs.Operands.{operandOf, reg}
 use Rattle.effect.specs.Refusal.{faults, refusedBy}
 use Rattle.effect.proofs.Opcodes.{ldst}
 use Rattle.step.specs.Step.{storesInto, guardOf}
-use Rattle.forward.specs.Inner.{guardedOf, storesBelow}
+use Rattle.guard.specs.Guard.{guardedOf, storesBelow}
 use Rattle.effect.proofs.Rows.{by-rows}
 
 -- tests on stores: f, a pointer faults; t, the store is below the guard

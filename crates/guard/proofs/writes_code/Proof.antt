@@ -1,13 +1,13 @@
--- `forward::code::writes_code` meets its contract: each test that fails is one of the definition's.
+-- `guard::writes_code` meets its contract: each test that fails is one of the definition's.
 -- Assumes nothing.
 use mathlib.Core.Path.{sym, _∙_}
 use borrow.Author.Tests.{ne-eqb}
 use Rattle.carried.proofs.Operands.{within}
-use Rattle.forward.specs.Inner.{storesBelow}
-use Rattle.forward.proofs.Guard.{unguarded, ldst-below}
+use Rattle.guard.specs.Guard.{storesBelow}
+use Rattle.guard.proofs.Guarded.{unguarded, ldst-below}
 use borrow.Author.Needs.{needs}
-use Rattle.forward.proofs.code.writes_code.Statement.{statement}
-use Rattle.forward.proofs.code.writes_code.Tie as tie
+use Rattle.guard.proofs.writes_code.Statement.{statement}
+use Rattle.guard.proofs.writes_code.Tie as tie
 
 returns : tie.Need-returns
 returns c = let a = c .before .args in rw (c .if1 .taken) (sym (unguarded (a .size) (a .regs .now) (a .cell)))

@@ -1,7 +1,7 @@
 // What a run asks of PC and of a store before a step: a profile's code is all that it fetches from, and is not written.
 ghost use mathlib.Core.Path.{_≡_};
 ghost use Rattle.step.specs.Step.{codeOf};
-ghost use Rattle.forward.specs.Inner.{guardedOf, storesBelow};
+ghost use Rattle.guard.specs.Guard.{guardedOf, storesBelow};
 use carried::is_fault;
 use carried::operand;
 use cell::l_of;
@@ -10,7 +10,7 @@ use cell::opcode_of;
 use machine::Kind;
 
 // How many cells a run may fetch from.
-pub(crate) fn limit_of(kind: Kind, size: usize) -> usize
+pub fn limit_of(kind: Kind, size: usize) -> usize
     ensures { λ r. ⌜ r ≡ codeOf kind size ⌝ }
 {
     match kind {
@@ -25,7 +25,7 @@ pub(crate) fn limit_of(kind: Kind, size: usize) -> usize
 }
 
 // How many cells a run may not store to, cell 0 aside: pointer 0 is none.
-pub(crate) fn guard_of(kind: Kind) -> usize
+pub fn guard_of(kind: Kind) -> usize
     ensures { λ r. ⌜ r ≡ guardedOf kind ⌝ }
 {
     match kind {
@@ -35,7 +35,7 @@ pub(crate) fn guard_of(kind: Kind) -> usize
 }
 
 // Whether a cell stores below the guard and neither of its pointers faults, since 5 comes before 61. A plain run is done with one test.
-pub(crate) fn writes_code(regs: &[u32; 256], size: usize, cell: u32, guard: usize) -> bool
+pub fn writes_code(regs: &[u32; 256], size: usize, cell: u32, guard: usize) -> bool
     ensures { λ r. ⌜ r ≡ storesBelow guard size (now (regs .entry)) cell ⌝ }
 {
     if guard == 0 {

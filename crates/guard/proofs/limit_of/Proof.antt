@@ -1,9 +1,9 @@
--- `forward::code::limit_of` meets its contract: the kind of run picks the case, and the test the lesser of two.
+-- `guard::limit_of` meets its contract: the kind of run picks the case, and the test the lesser of two.
 -- Assumes nothing.
 use native.Mathlib.Omega.{arith}
 use borrow.Author.Needs.{needs}
-use Rattle.forward.proofs.code.limit_of.Statement.{statement}
-use Rattle.forward.proofs.code.limit_of.Tie as tie
+use Rattle.guard.proofs.limit_of.Statement.{statement}
+use Rattle.guard.proofs.limit_of.Tie as tie
 
 enum-told : tie.Need-enum-told
 enum-told c = search needs
