@@ -3,16 +3,16 @@
 use Prim.Native.Nat.{ℕ, _+_, _%_, _^_, _≤_, _<_}
 use mathlib.Core.Path.{_≡_, refl, sym, ap, _∙_}
 use mathlib.Core.Bool.{Bool, true, false, cond, _&&_, _||_}
-use mathlib.Core.Option.{none, some}
+use mathlib.Core.Option.{none}
 use mathlib.Core.List.{List}
 use native.Mathlib.Omega.{arith}
 use lib.Dec.{leb, ltb, eqb}
 use lib.ListN.{length, getD, set, length-set}
 use lib.Seq.{getD-set-same}
-use borrow.Author.Tests.{eqb-true, eqb-false, ne-eqb, leb-false, ltb-false, lt-ltb, lt-leb, le-leb}
+use borrow.Author.Tests.{eqb-true, eqb-false, ne-eqb, ltb-false, lt-ltb, le-leb}
 use Rattle.half.specs.Half.{seOf}
 use Rattle.machine.specs.declared.Kind.the-variants.{Profile}
-use Rattle.machine.specs.State.{State, pcOf, mostCells, writeIf}
+use Rattle.machine.specs.State.{State, pcOf, mostCells}
 use Rattle.machine.specs.Addresses.{maskAddress, modeAddress}
 use Rattle.machine.proofs.Tests.{picked}
 use Rattle.effect.specs.Parts.{Write, Effect, Onward, Interrupt, still, store, load}

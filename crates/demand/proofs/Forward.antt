@@ -8,22 +8,19 @@ use mathlib.Core.Option.{Option, none, some}
 use mathlib.Core.List.{List, [], _∷_}
 use native.Mathlib.Omega.{arith}
 use lib.ListN.{length}
-use Rattle.effect.specs.Parts.{Interrupt}
-use Rattle.effect.specs.Action.{Float}
 use Rattle.machine.specs.declared.Kind.{Kind}
 use Rattle.machine.specs.declared.Kind.the-variants.{Plain, Profile}
 use Rattle.machine.specs.State.{State, pcOf, capacityOf}
-use Rattle.machine.specs.Stops.{Said, plainly}
+use Rattle.machine.specs.Stops.{Said}
 use Rattle.machine.proofs.Tests.{picked}
 use Rattle.journal.specs.Journal.{applyOf}
 use Rattle.journal.proofs.Undo.{lengths}
-use Rattle.profile.specs.Profile.{judgedBy, ruleOf}
+use Rattle.profile.specs.Profile.{ruleOf}
 use Rattle.profile.proofs.Allowed.{forward-length, forward-allowed}
-use Rattle.step.specs.Step.{Course, going, stopped, refused, Moved, actionIn, storesInto, codeOf, refusalOf, effectIn, moved, stepOf}
+use Rattle.step.specs.Step.{refused, Moved, actionIn, storesInto, codeOf, refusalOf, effectIn, moved, stepOf}
 use Rattle.step.specs.Steps.{steps, courseAfter}
 use Rattle.step.proofs.Steps.{done-with}
-use Rattle.step.proofs.Keeps.{clear-in}
-use Rattle.call.specs.Calls.{Out, runFrom, called, runBegins, runOf}
+use Rattle.call.specs.Calls.{Out, runFrom, runBegins, runOf}
 use Rattle.call.proofs.Checks.{rule-passed, run-checked}
 use Rattle.call.proofs.Counts.{done}
 use Rattle.demand.specs.Demands.{listed, runStops, GoesOn, Ends, spent, last, next}

@@ -1,7 +1,7 @@
 -- Demand 2: a run that is not refused at once is the definition's step repeated, and ends where the steps do; so it has one outcome. One proof
 -- serves plain and profile runs.
 -- Assumes nothing.
-use Prim.Native.Nat.{ℕ, zero, suc, _+_, _<_}
+use Prim.Native.Nat.{ℕ, zero, suc, _+_}
 use mathlib.Core.Path.{_≡_, refl, sym, ap, _∙_}
 use mathlib.Core.Bool.{Bool, true, false, _||_}
 use mathlib.Core.Option.{none}

@@ -1,6 +1,6 @@
 -- The verdict by what becomes of the input: too long, refused by the load, or loaded into a number of cells that a job may have.
 -- Assumes nothing.
-use mathlib.Core.Path.{_≡_, refl, sym, ap, _∙_}
+use mathlib.Core.Path.{_≡_, refl}
 use mathlib.Core.Bool.{Bool, true, false, cond}
 use mathlib.Core.List.{List}
 use Prim.Native.Nat.{ℕ, _<_, _≤_}
@@ -13,7 +13,7 @@ use Rattle.intake.specs.Intake.{mostInput}
 use Rattle.job.specs.declared.Loaded.{Loaded}
 use Rattle.job.specs.declared.Answer.the-variants as answer
 use Rattle.refusal.specs.declared.Refusal.{Refusal}
-use Rattle.job.specs.Job.{Load, nothingYet, refusedAt, refusalFrom, refusalIn, loadedBy, loadOf}
+use Rattle.job.specs.Job.{nothingYet, refusedAt, refusalFrom, refusalIn, loadedBy, loadOf}
 use Rattle.job.specs.Answers.{loadWith}
 use Rattle.refusal.specs.Refusal.{numberOf}
 use Rattle.refusal.proofs.Named.{numbered}

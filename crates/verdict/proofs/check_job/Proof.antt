@@ -1,6 +1,6 @@
 -- `verdict::check_job` meets its contract: the input is too long, or refused by the load, or loaded and checked.
 use native.Mathlib.Omega.{arith}
-use mathlib.Core.Path.{sym, _∙_}
+use mathlib.Core.Path.{_∙_}
 use Rattle.verdict.proofs.Cases.{verdict-long, cells-long, cells-left, verdict-refused, verdict-loaded, few-cells}
 use borrow.Author.Needs.{needs}
 use Rattle.verdict.proofs.check_job.Statement.{statement}

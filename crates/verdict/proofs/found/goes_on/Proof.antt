@@ -1,5 +1,4 @@
 -- `verdict::found::goes_on` meets its contract: the tests are the definition's.
-use native.Mathlib.Omega.{arith}
 use borrow.Author.Tests.{leb-true}
 use Rattle.cell.proofs.Tests.{both-left}
 use borrow.Author.Needs.{needs}
