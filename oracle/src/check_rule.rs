@@ -7,13 +7,13 @@ use crate::profile::{check, Fault, Reason};
 const NO_LENGTH: &str = "refused 60: L must be 1 to 4096\n";
 const NO_RULE: &str = "refused 60: the first record does not begin at cell 0\n";
 
-/// The argument is the rule's length; without it, the job's first record is the rule.
+/// The argument is the rule's length; without it, or with an empty one, the job's first record is the rule.
 pub fn text(argument: Option<&str>, input: &[u8]) -> String {
     let mut cells = vec![0; PROGRAM_CELLS];
     if let Err(refused) = job::load_input(input, &mut cells) {
         return job::refused_text(refused);
     }
-    let length = match argument {
+    let length = match argument.filter(|digits| !digits.is_empty()) {
         None => first_record(input).ok_or(NO_RULE),
         Some(digits) => number(digits).ok_or(NO_LENGTH),
     };

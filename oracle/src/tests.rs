@@ -401,9 +401,10 @@ fn job_of(lines: &[&str]) -> Vec<u8> {
 fn what_check_rule_prints() {
     let good = job_of(&["LDLIZ R1, #7", "SUBI R1, #2", "LDUI R255, #65535"]);
     assert_eq!(check_rule::text(None, &good), "forward only: at most 3 steps\n");
+    assert_eq!(check_rule::text(Some(""), &good), "forward only: at most 3 steps\n");
     assert_eq!(check_rule::text(Some("1"), &good), "forward only: at most 1 steps\n");
     assert_eq!(check_rule::text(Some("4096"), &good), "forward only: at most 4096 steps\n");
-    for length in ["0", "4097", "", "03", "+3", "-3", "3 ", "x", "4294967299", "99999999999999999999"] {
+    for length in ["0", "4097", "03", "+3", "-3", "3 ", "x", "4294967299", "99999999999999999999"] {
         assert_eq!(check_rule::text(Some(length), &good), "refused 60: L must be 1 to 4096\n", "{length}");
     }
     for (line, sentence) in [
