@@ -1,8 +1,14 @@
 // A cell as an instruction: where its numbers lie, decoding it, and encoding it from an opcode and operands.
 ghost use mathlib.Core.Path.{_≡_};
 ghost use Prim.Native.Nat.{_<_};
-ghost use Rattle.cell.specs.Cell.{within as inside, legal as legalOf, immediate as immediateOf, formOf, opcodeOf, nOf, mOf, lOf, immOf, decodeOf, encodeOf};
+ghost use Rattle.cell.specs.Cell.{formOf, opcodeOf, nOf, mOf, lOf, immOf, decodeOf, encodeOf};
 ghost use Rattle.cell.specs.Answers.{encodedReply};
+
+mod forms;
+
+use forms::FORMS;
+use forms::IMMEDIATE;
+use forms::REGISTERS;
 
 // How the 24 bits below an opcode are read: three registers, a register and an immediate, or not at all.
 pub enum Form {
@@ -31,39 +37,14 @@ pub enum Encoded {
     OtherForm,
 }
 
-// Whether x is one of the numbers a to b.
-fn within(a: u8, b: u8, x: u8) -> bool
-    ensures { λ r. ⌜ r ≡ inside a b x ⌝ }
-{
-    (a <= x) & (x <= b)
-}
-
-// Whether an opcode is legal; the others are reserved.
-fn legal(x: u8) -> bool
-    ensures { λ r. ⌜ r ≡ legalOf x ⌝ }
-{
-    within(0, 1, x) | within(3, 7, x) | within(16, 54, x) | within(80, 107, x) | within(121, 122, x)
-}
-
-// Whether a legal opcode is of immediate form.
-fn immediate(x: u8) -> bool
-    ensures { λ r. ⌜ r ≡ immediateOf x ⌝ }
-{
-    within(3, 7, x) | within(35, 53, x) | within(93, 106, x) | within(121, 122, x)
-}
-
-// The form of an opcode.
+// The form of an opcode, as the list has it.
 pub fn form_of(opcode: u8) -> Form
     ensures { λ r. ⌜ r ≡ formOf opcode ⌝ }
 {
-    if legal(opcode) {
-        if immediate(opcode) {
-            Form::Immediate
-        } else {
-            Form::Registers
-        }
-    } else {
-        Form::Reserved
+    match FORMS[opcode as usize] {
+        REGISTERS => Form::Registers,
+        IMMEDIATE => Form::Immediate,
+        _ => Form::Reserved,
     }
 }
 
