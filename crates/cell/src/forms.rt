@@ -1,6 +1,7 @@
-// The opcode list: the form of every opcode from 0 to 255, to be laid beside the specification. Each legal opcode has its mnemonic.
+// The opcode list, a page to lay beside the specification: under its four headings the form of every opcode from 0 to 255, and the mnemonic of
+// each that is legal. Opcode 2, of which it says nothing, is reserved.
 
-// What an entry says.
+// What an entry says: the bits below the opcode are not read, are three registers, or are a register and an immediate.
 pub(crate) const RESERVED: u8 = 0;
 
 pub(crate) const REGISTERS: u8 = 1;
@@ -9,6 +10,7 @@ pub(crate) const IMMEDIATE: u8 = 2;
 
 // The entries, in opcode order.
 pub(crate) const FORMS: [u8; 256] = [
+    // Data transfer, 0 to 15.
     REGISTERS, //   0 CPSWP
     REGISTERS, //   1 LDST
     RESERVED, //    2
@@ -25,6 +27,8 @@ pub(crate) const FORMS: [u8; 256] = [
     RESERVED, //   13
     RESERVED, //   14
     RESERVED, //   15
+
+    // Integer arithmetic, 16 to 79.
     REGISTERS, //  16 ADD
     REGISTERS, //  17 ADC
     REGISTERS, //  18 SUB
@@ -89,6 +93,8 @@ pub(crate) const FORMS: [u8; 256] = [
     RESERVED, //   77
     RESERVED, //   78
     RESERVED, //   79
+
+    // Floating-point arithmetic, 80 to 120.
     REGISTERS, //  80 FADD
     REGISTERS, //  81 FSUB
     REGISTERS, //  82 FMUL
@@ -130,6 +136,8 @@ pub(crate) const FORMS: [u8; 256] = [
     RESERVED, //  118
     RESERVED, //  119
     RESERVED, //  120
+
+    // Control flow and the rest, 121 to 255.
     IMMEDIATE, // 121 BZ
     IMMEDIATE, // 122 INT
     RESERVED, //  123
