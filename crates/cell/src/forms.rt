@@ -1,15 +1,25 @@
 // The opcode list, a page to lay beside the specification: under its four headings the form of every opcode from 0 to 255, and the mnemonic of
 // each that is legal. Opcode 2, of which it says nothing, is reserved.
+ghost use mathlib.Core.Path.{_≡_};
+ghost use Rattle.cell.specs.Cell.{formOf};
+ghost use Rattle.cell.specs.Inner.{listedAs};
 
-// What an entry says: the bits below the opcode are not read, are three registers, or are a register and an immediate.
-pub(crate) const RESERVED: u8 = 0;
+// How an opcode may be listed: the bits below it are not read, are three registers, or are a register and an immediate.
+const RESERVED: u8 = 0;
 
 pub(crate) const REGISTERS: u8 = 1;
 
 pub(crate) const IMMEDIATE: u8 = 2;
 
-// The entries, in opcode order.
-pub(crate) const FORMS: [u8; 256] = [
+// How an opcode is listed.
+pub(crate) fn listed(opcode: u8) -> u8
+    ensures { λ r. ⌜ r ≡ listedAs (formOf opcode) ⌝ }
+{
+    FORMS[opcode as usize]
+}
+
+// The list, in opcode order.
+const FORMS: [u8; 256] = [
     // Data transfer, 0 to 15.
     REGISTERS, //   0 CPSWP
     REGISTERS, //   1 LDST
