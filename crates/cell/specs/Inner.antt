@@ -1,9 +1,10 @@
--- How the code's opcode list has a form. No public contract cites this definition: the private function that reads the list answers by it.
+-- The mark that a form has in the code's opcode list. No public contract cites this definition: the private function that reads the list
+-- answers by it.
 use Prim.Native.Nat.{ℕ}
 use Rattle.cell.specs.declared.Form.{Form}
 use Rattle.cell.specs.declared.Form.the-variants.{Registers, Immediate, Reserved}
 
-abbrev pub listedAs : Form → ℕ
-listedAs Reserved = 0
-listedAs Registers = 1
-listedAs Immediate = 2
+abbrev pub markOf : Form → ℕ
+markOf Reserved = 0
+markOf Registers = 1
+markOf Immediate = 2

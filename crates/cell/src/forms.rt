@@ -2,23 +2,23 @@
 // each that is legal. Opcode 2, of which it says nothing, is reserved.
 ghost use mathlib.Core.Path.{_≡_};
 ghost use Rattle.cell.specs.Cell.{formOf};
-ghost use Rattle.cell.specs.Inner.{listedAs};
+ghost use Rattle.cell.specs.Inner.{markOf};
 
-// How an opcode may be listed: the bits below it are not read, are three registers, or are a register and an immediate.
+// The mark of a form: the bits below the opcode are not read, are three registers, or are a register and an immediate.
 const RESERVED: u8 = 0;
 
 pub(crate) const REGISTERS: u8 = 1;
 
 pub(crate) const IMMEDIATE: u8 = 2;
 
-// How an opcode is listed.
-pub(crate) fn listed(opcode: u8) -> u8
-    ensures { λ r. ⌜ r ≡ listedAs (formOf opcode) ⌝ }
+// The mark that an opcode has in the list.
+pub(crate) fn mark(opcode: u8) -> u8
+    ensures { λ r. ⌜ r ≡ markOf (formOf opcode) ⌝ }
 {
     FORMS[opcode as usize]
 }
 
-// The list, in opcode order.
+// The marks, in opcode order.
 const FORMS: [u8; 256] = [
     // Data transfer, 0 to 15.
     REGISTERS, //   0 CPSWP

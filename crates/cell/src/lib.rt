@@ -8,7 +8,7 @@ mod forms;
 
 use forms::IMMEDIATE;
 use forms::REGISTERS;
-use forms::listed;
+use forms::mark;
 
 // How the 24 bits below an opcode are read: three registers, a register and an immediate, or not at all.
 pub enum Form {
@@ -41,7 +41,7 @@ pub enum Encoded {
 pub fn form_of(opcode: u8) -> Form
     ensures { λ r. ⌜ r ≡ formOf opcode ⌝ }
 {
-    match listed(opcode) {
+    match mark(opcode) {
         REGISTERS => Form::Registers,
         IMMEDIATE => Form::Immediate,
         _ => Form::Reserved,

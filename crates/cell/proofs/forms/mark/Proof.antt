@@ -1,4 +1,4 @@
--- `cell::forms::listed` meets its contract: the list is the one that the definition gives, for all 256 opcodes.
+-- `cell::forms::mark` meets its contract: the list is the one that the definition gives, for all 256 opcodes.
 use mathlib.Core.Path.{_≡_, refl}
 use mathlib.Core.List.{List, [], _∷_}
 use Prim.Native.Nat.{ℕ, zero, suc, _<_}
@@ -7,9 +7,9 @@ use native.Mathlib.Omega.{arith}
 use borrow.Author.Needs.{needs}
 use lib.ListN.{getD}
 use Rattle.cell.specs.Cell.{legal, immediate, formOf}
-use Rattle.cell.specs.Inner.{listedAs}
-use Rattle.cell.proofs.forms.listed.Statement.{statement}
-use Rattle.cell.proofs.forms.listed.Tie as tie
+use Rattle.cell.specs.Inner.{markOf}
+use Rattle.cell.proofs.forms.mark.Statement.{statement}
+use Rattle.cell.proofs.forms.mark.Tie as tie
 
 -- what f has at 0 to n - 1
 abbrev listOf : (ℕ → ℕ) → ℕ → List ℕ
@@ -27,7 +27,7 @@ array-read-result c = search needs
 -- the code's list is the definition's, entry for entry
 returns : tie.Need-returns
 unfolding formOf legal immediate
-returns c = list-at (λ (x : ℕ). listedAs (formOf x)) 256 (c .args .opcode) (search needs)
+returns c = list-at (λ (x : ℕ). markOf (formOf x)) 256 (c .args .opcode) (search needs)
 
-pub listed-spec : {M : Type 1} → statement M
-listed-spec = tie.close (tie.spec array-read-result returns)
+pub mark-spec : {M : Type 1} → statement M
+mark-spec = tie.close (tie.spec array-read-result returns)
