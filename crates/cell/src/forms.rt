@@ -1,5 +1,5 @@
 // The opcode list, a page to lay beside the specification: under its four headings the form of every opcode from 0 to 255, and the mnemonic of
-// each that is legal. Opcode 2, of which it says nothing, is reserved.
+// each that is legal. Opcode 2, of which the specification says nothing, is reserved.
 ghost use mathlib.Core.Path.{_≡_};
 ghost use Rattle.cell.specs.Cell.{formOf};
 ghost use Rattle.cell.specs.Inner.{markOf};
