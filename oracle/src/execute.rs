@@ -35,6 +35,11 @@ fn se(half: u16) -> u32 {
     half as i16 as i32 as u32
 }
 
+/// Where a BZ at PC leads. The number has a sign: below cell 0 it is below 0.
+pub fn branch_target(pc: u32, imm: u16) -> i64 {
+    i64::from(pc) + 1 + i64::from(imm as i16)
+}
+
 /// Opcodes 16 to 34 on two words. No result means that the register stays as it is.
 fn arithmetic(opcode: u8, x: u32, y: u32, flags: u32, written: &mut Written) -> Option<u32> {
     let carry = if opcode == 17 && flags & CARRY != 0 { 1u64 } else { 0 };
@@ -105,7 +110,7 @@ fn arithmetic(opcode: u8, x: u32, y: u32, flags: u32, written: &mut Written) -> 
 
 impl Runner {
     /// What the register will hold when the step at PC reads it.
-    pub fn pointer(&self, register: u8) -> u32 {
+    pub fn operand(&self, register: u8) -> u32 {
         let value = self.machine.registers[register as usize];
         if register as usize == PC {
             value + 1
@@ -118,10 +123,17 @@ impl Runner {
     pub fn faults(&self, cell: u32) -> bool {
         let [opcode, _, m, l] = cell.to_be_bytes();
         let outside = |register: u8| {
-            let pointer = self.pointer(register);
+            let pointer = self.operand(register);
             pointer as usize >= self.cells.len() && pointer < END
         };
         opcode == 1 && (outside(m) || outside(l))
+    }
+
+    /// A BZ that is taken, to below cell 0. Asked before the step is begun.
+    pub fn jumps_wildly(&self, cell: u32) -> bool {
+        let [opcode, n, _, _] = cell.to_be_bytes();
+        let target = branch_target(self.machine.registers[PC], cell as u16);
+        opcode == 121 && self.operand(n) == 0 && target < 0
     }
 
     /// Does the step, writes its journal entry, and answers the flags that it wrote as 1.
@@ -201,8 +213,11 @@ impl Runner {
                 self.machine.registers[l as usize] = widen((rn >> 16) as u16);
             }
             121 => {
-                if rn == 0 {
-                    self.machine.registers[PC] = r[PC].wrapping_add(se(imm));
+                let (pc, taken) = (before.registers[PC], rn == 0);
+                let target = branch_target(pc, imm);
+                self.branches.insert((pc, target, taken));
+                if taken {
+                    self.machine.registers[PC] = target as u32;
                 }
             }
             122 => {}

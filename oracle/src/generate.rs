@@ -1,6 +1,7 @@
 //! Makes a file of trials from a seed: the edges of every rule first, then a random mixture.
 
 use crate::file::Trials;
+use crate::generate_branches;
 use crate::generate_calls;
 use crate::generate_checks;
 use crate::generate_forward;
@@ -19,6 +20,7 @@ pub fn trials(seed: u64, count: usize) -> Vec<u8> {
     generate_jobs::edges(&mut random, &mut trials);
     generate_instructions::edges(&mut random, &mut trials);
     generate_stops::edges(&mut random, &mut trials);
+    generate_branches::edges(&mut random, &mut trials);
     generate_checks::edges(&mut random, &mut trials);
     generate_profile::edges(&mut random, &mut trials);
     generate_profile_stops::edges(&mut random, &mut trials);

@@ -35,18 +35,33 @@ pub fn instruction(random: &mut Random) -> u32 {
     let imm = random.immediate();
     match random.below(100) {
         0..=38 => with_registers(16 + random.below(19) as u8, n, m, l),
-        39..=60 => with_immediate(35 + random.below(19) as u8, n, imm),
+        39..=58 => with_immediate(35 + random.below(19) as u8, n, imm),
+        59 | 60 => ending(random),
         61..=74 => with_registers(1, n, pointer(random), pointer(random)),
         75..=79 => with_immediate(3 + random.below(5) as u8, n, imm),
         80..=83 => with_registers(0, n, m, l),
         84 | 85 => with_registers(54, n, m, l),
         86 | 87 => with_registers(107, n, m, l),
-        88..=93 => with_immediate(121, n, random.pick(&[0, 1, 2, 3, 0xFFFF, 0xFFFE, 0xFFFC, 0xFFE0, imm])),
+        88..=93 => {
+            let n = if random.chance(50) { NOTHING } else { n };
+            with_immediate(121, n, random.pick(&[0, 1, 2, 3, 0xFFFF, 0xFFFE, 0xFFFC, 0xFFF0, 0xFFE0, imm]))
+        }
         94 | 95 => with_immediate(122, random.register(), imm),
         96 | 97 => with_registers(random.pick(&[2, 8, 15, 55, 79, 108, 120, 123, 255]), n, m, l),
         98 => with_registers(80 + random.below(27) as u8, n, m, l),
         _ => random.bits(),
     }
+}
+
+/// A cell that ends a program: R255 gets the end, a special address, or a number below zero that wraps round.
+fn ending(random: &mut Random) -> u32 {
+    random.pick(&[
+        with_immediate(4, 255, 0xFFFF),
+        with_immediate(6, 255, 0x8000),
+        with_immediate(37, 255, 0x7FFF),
+        with_registers(0, 255, SPECIAL, NOTHING),
+        with_registers(18, 255, NOTHING, 255),
+    ])
 }
 
 fn pointer(random: &mut Random) -> u8 {

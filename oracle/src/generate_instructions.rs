@@ -19,7 +19,6 @@ pub fn edges(random: &mut Random, trials: &mut Trials) {
     halves(random, trials);
     transfers(random, trials);
     pc_everywhere(random, trials);
-    branches(trials);
     reserved(trials);
     every_half(trials);
 }
@@ -210,22 +209,4 @@ fn reserved(trials: &mut Trials) {
     setup.place(0, &program);
     setup.calls = vec![(RUN, LONG), (BACK, 100)];
     setup.add_to(trials);
-}
-
-/// Branches to either side of the first and the last cell, taken and not.
-fn branches(trials: &mut Trials) {
-    for at in [0, 1, 5] {
-        for imm in [0, 1, 4, 5, 0x7FFF, 0x8000, 0xFFF9, 0xFFFA, 0xFFFD, 0xFFFE, 0xFFFF] {
-            for value in [0, 1] {
-                if value == 1 && imm % 2 == 0 {
-                    continue;
-                }
-                let mut setup = Setup::new(7, 24);
-                setup.registers = vec![(1, value), (255, at)];
-                setup.place(at, &[with_immediate(121, 1, imm)]);
-                setup.calls = vec![(STEP, 0)];
-                setup.add_to(trials);
-            }
-        }
-    }
 }

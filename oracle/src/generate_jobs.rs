@@ -225,6 +225,7 @@ fn running_jobs() -> Vec<Vec<u8>> {
         run(&[add, with_registers(1, 3, 9, 0)], &[register(9, RUNJOB_CELLS)]),
         run(&[add, with_registers(1, 3, 9, 0)], &[register(9, RUNJOB_CELLS - 1)]),
         run(&[add, with_immediate(80, 1, 1)], &[]),
+        run(&[add, with_immediate(121, 0, 0xFFFD)], &[]),
     ]
 }
 

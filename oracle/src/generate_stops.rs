@@ -53,13 +53,18 @@ fn out_of_range(random: &mut Random, trials: &mut Trials) {
     }
 }
 
-/// Depths around the number of entries. What a step would meet, a float, a fault, the end or no
-/// cell, must count only where a step can be noted.
+/// Depths around the number of entries. What a step would meet, a float, a fault, a jump below cell 0,
+/// the end or no cell, must count only where a step can be noted.
 fn depths(random: &mut Random, trials: &mut Trials) {
     for words in [0, 7, 8, 15, 16, 17, 23, 24, 80] {
         let entries: u32 = words / 8;
         for depth in [entries.wrapping_sub(1), entries, entries + 1] {
-            for cell in [with_immediate(35, 1, 5), with_immediate(80, 1, 5), with_registers(1, 1, 2, 3)] {
+            for cell in [
+                with_immediate(35, 1, 5),
+                with_immediate(80, 1, 5),
+                with_registers(1, 1, 2, 3),
+                with_immediate(121, 1, 0xFFFE),
+            ] {
                 let mut setup = Setup::new(4, words);
                 setup.depth = depth;
                 setup.place(0, &[cell]);

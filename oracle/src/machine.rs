@@ -74,11 +74,20 @@ pub struct Runner {
     pub executed: [u64; 256],
     /// The halves that LDLIF, and low and high that FSPLIT, made single; nothing depends on them.
     pub widened: [BTreeSet<u16>; 3],
+    /// Each BZ that was done: its cell, its target, and whether it was taken; nothing depends on them.
+    pub branches: BTreeSet<(u32, i64, bool)>,
 }
 
 impl Runner {
     pub fn new(machine: Machine, cells: Vec<u32>, journal: Vec<u32>) -> Runner {
-        Runner { machine, cells, journal, executed: [0; 256], widened: Default::default() }
+        Runner {
+            machine,
+            cells,
+            journal,
+            executed: [0; 256],
+            widened: Default::default(),
+            branches: BTreeSet::new(),
+        }
     }
 
     fn entries(&self) -> u32 {
@@ -159,6 +168,9 @@ impl Runner {
         }
         if self.faults(cell) {
             return Some(5);
+        }
+        if self.jumps_wildly(cell) {
+            return Some(13);
         }
         match rule {
             Some(length) if self.stores_below(length, cell) => Some(61),

@@ -5,6 +5,7 @@ mod check_rule;
 mod execute;
 mod file;
 mod generate;
+mod generate_branches;
 mod generate_calls;
 mod generate_checks;
 mod generate_forward;

@@ -103,6 +103,6 @@ impl Runner {
     /// An LDST that would store into cells 1 to length - 1, were it legal or not.
     pub fn stores_below(&self, length: u32, cell: u32) -> bool {
         let [opcode, _, m, _] = cell.to_be_bytes();
-        opcode == 1 && (1..length).contains(&self.pointer(m))
+        opcode == 1 && (1..length).contains(&self.operand(m))
     }
 }

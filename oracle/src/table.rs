@@ -3,6 +3,7 @@
 use std::collections::{BTreeMap, BTreeSet};
 
 use crate::cell::opcode_of;
+use crate::execute::branch_target;
 use crate::machine::{Answer, Runner, ENTRY_WORDS, MOST_CELLS, MOST_ENTRIES, PC};
 use crate::profile::Fault;
 
@@ -10,7 +11,7 @@ use crate::profile::Fault;
 const CALLS: [&str; 5] = ["step", "run", "back", "profile", "runjob"];
 const RUNJOB: usize = 4;
 
-const STOPS: [u32; 16] = [0, 1, 2, 3, 4, 5, 6, 7, 8, 9, 10, 11, 12, 60, 61, 62];
+const STOPS: [u32; 17] = [0, 1, 2, 3, 4, 5, 6, 7, 8, 9, 10, 11, 12, 13, 60, 61, 62];
 
 /// What the check of a rule may answer.
 const FOUND: [&str; 7] = ["forward only", "length", "reserved", "float", "int", "back", "target"];
@@ -25,10 +26,10 @@ const REFUSALS: [(&str, &[u32]); 6] = [
     ("runjob", &[10, 41, 42, 43, 44, 45, 46, 47, 50]),
 ];
 
-/// What happens at the limits that only large trials reach. The journals have words for more
+/// What happens at the limits, most of which only large trials reach. The journals have words for more
 /// entries than there may be, and the depth is that after the call. A record's first number is the
-/// length that it tells, the second how much of that is there.
-const LIMITS: [&str; 14] = [
+/// length that it tells, the second how much of that is there. A BZ has its cell and its target.
+const LIMITS: [&str; 25] = [
     "step 0 at depth 65536",
     "step 7 at depth 65536",
     "step 11 at depth 65537",
@@ -43,18 +44,29 @@ const LIMITS: [&str; 14] = [
     "record 65538 of 65538 loaded",
     "record 65538 of 65537 refused 44 at 0",
     "record 65542 of 65542 refused 43 at 0",
+    "BZ from 0 to -32767 refused",
+    "BZ from 0 to -1 refused",
+    "BZ from 0 to -1 not taken",
+    "BZ from 0 to 0 taken",
+    "BZ from 16383 to -16384 refused",
+    "BZ from 16383 to -1 refused",
+    "BZ from 16383 to -1 not taken",
+    "BZ from 16383 to 0 taken",
+    "step 4 at PC 32766",
+    "step 4 at PC 32767",
+    "step 4 at PC 32768",
 ];
 
 /// Where halves become single floats, in the order of `Runner::widened`.
 const WIDENED: [&str; 3] = ["LDLIF", "FSPLIT low", "FSPLIT high"];
 const HALVES: usize = 65_536;
 
-/// 1 to 7 belong to going forward, 8 and 9 to going back, 60 to 62 to profile runs, which never
-/// come to 3, 4 or 6. A loaded job has nothing out of range, and its budget ends with its journal.
+/// 1 to 7 and 13 belong to going forward, 8 and 9 to going back, 60 to 62 to profile runs, which never
+/// come to 3, 4, 6 or 13. A loaded job has nothing out of range, and its budget ends with its journal.
 fn can_stop(call: &str, stop: u32) -> bool {
     match stop {
         0 => true,
-        3 | 4 | 6 => call != "back" && call != "profile",
+        3 | 4 | 6 | 13 => call != "back" && call != "profile",
         1 | 2 | 5 => call != "back",
         7 => call != "back" && call != "runjob",
         8 | 9 => call == "back",
@@ -105,12 +117,18 @@ impl Tally {
 
     pub fn stop(&mut self, call: u8, answer: &Answer, runner: &Runner) {
         self.one_stop(call as usize, answer.stop);
-        if answer.stop == 6 {
-            let cell = runner.cells[runner.machine.registers[PC] as usize];
-            self.unsupported[opcode_of(cell) as usize] += 1;
+        let (name, pc) = (CALLS[call as usize], runner.machine.registers[PC]);
+        match answer.stop {
+            4 => self.limit(format!("{name} 4 at PC {pc}")),
+            6 => self.unsupported[opcode_of(runner.cells[pc as usize]) as usize] += 1,
+            13 => {
+                let target = branch_target(pc, runner.cells[pc as usize] as u16);
+                self.limit(format!("BZ from {pc} to {target} refused"));
+            }
+            _ => {}
         }
         if runner.journal.len() / ENTRY_WORDS > MOST_ENTRIES {
-            self.limit(format!("{} {} at depth {}", CALLS[call as usize], answer.stop, runner.machine.depth));
+            self.limit(format!("{name} {} at depth {}", answer.stop, runner.machine.depth));
         }
     }
 
@@ -174,6 +192,10 @@ impl Tally {
         }
         for (all, halves) in self.widened.iter_mut().zip(&runner.widened) {
             all.extend(halves);
+        }
+        for (pc, target, taken) in &runner.branches {
+            let what = if *taken { "taken" } else { "not taken" };
+            self.limit(format!("BZ from {pc} to {target} {what}"));
         }
     }
 

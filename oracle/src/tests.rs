@@ -1,4 +1,4 @@
-//! The small cases of the rules, the printed job, and rules that only go forward.
+//! The small cases of the rules, the printed job, branches, and rules that only go forward.
 
 use crate::cell::{decode, encode, with_immediate, with_registers, Decoded, Operands};
 use crate::check_rule;
@@ -123,8 +123,8 @@ fn case_9_comparisons() {
 
 #[test]
 fn case_10_branch_below_zero() {
-    let (answer, machine) = one_step(with_immediate(121, 1, 65_534), [0, 0, 0], 0);
-    assert_eq!((answer.stop, answer.count, machine.registers[PC], machine.flags), (1, 1, 0xFFFF_FFFF, 256));
+    let refused = one_step(with_immediate(121, 1, 65_534), [0, 0, 0], 0);
+    assert_eq!(refused, (Answer::stop(13, 0), Machine::fresh()));
 }
 
 #[test]
@@ -215,6 +215,98 @@ fn back_of_five_at_depth_three() {
 /// The cell of a line without its LF.
 fn cell(text: &str) -> u32 {
     line::read(format!("{text}\n").as_bytes()).unwrap()
+}
+
+fn fresh_at(pc: u32) -> Machine {
+    let mut machine = Machine::fresh();
+    machine.registers[PC] = pc;
+    machine
+}
+
+/// R255 reads as the cell behind the branch, which is never 0.
+#[test]
+fn branches_to_either_side_of_cell_0() {
+    for pc in [0, 1, 2, 16_382, 16_383] {
+        for target in [-1, 0, 1] {
+            for (n, value) in [(1, 0), (1, 1), (1, 0x8000_0000), (255, pc)] {
+                let mut before = fresh_at(pc);
+                before.registers[n as usize] = value;
+                let mut runner = Runner::new(before.clone(), vec![0; 16_384], vec![0; 8]);
+                runner.cells[pc as usize] = with_immediate(121, n, (target - pc as i32 - 1) as u16);
+                let answer = runner.step();
+                let taken = n == 1 && value == 0;
+                if taken && target < 0 {
+                    assert_eq!(answer, Answer::stop(13, 0));
+                    assert_eq!((runner.machine, runner.journal), (before, vec![0; 8]));
+                } else {
+                    assert_eq!(answer, Answer::stop(0, 1));
+                    assert_eq!(runner.machine.registers[PC], if taken { target as u32 } else { pc + 1 });
+                }
+            }
+        }
+    }
+}
+
+/// An imm above 32,767 goes back, from the cell behind the branch, by what is missing to 65,536.
+#[test]
+fn every_branch_that_is_taken() {
+    for pc in [0, 1, 16_383] {
+        let mut runner = Runner::new(fresh_at(pc), vec![0; 16_384], vec![0; 8]);
+        for imm in 0..=65_535 {
+            runner.cells[pc as usize] = with_immediate(121, 0, imm as u16);
+            if imm > 32_767 && 65_536 - imm > pc + 1 {
+                assert_eq!(runner.step(), Answer::stop(13, 0));
+            } else {
+                assert_eq!(runner.step(), Answer::stop(0, 1));
+                assert_eq!(runner.back(1), Answer::stop(0, 1));
+            }
+            assert_eq!(runner.machine, fresh_at(pc));
+        }
+    }
+}
+
+#[test]
+fn what_comes_before_a_jump_below_cell_0() {
+    let answer = |pc: u32, depth: u32, budget: u64| {
+        let machine = Machine { depth, ..fresh_at(pc) };
+        Runner::new(machine, vec![cell("BZ R0, #32768"); 16_384], vec![0; 8]).run(budget)
+    };
+    for pc in [0, 16_383] {
+        assert_eq!(answer(pc, 0, 1), Answer::stop(13, 0));
+        assert_eq!(answer(pc, 0, 0), Answer::stop(0, 0));
+        assert_eq!(answer(pc, 1, 1), Answer::stop(7, 0));
+    }
+    for pc in [16_384, 32_766, 32_767, 32_768, 0xFFFE_FFFF] {
+        assert_eq!(answer(pc, 0, 1), Answer::stop(4, 0));
+    }
+    for pc in [0xFFFF_0000, 0xFFFF_FFFF] {
+        assert_eq!(answer(pc, 0, 1), Answer::stop(1, 0));
+    }
+}
+
+/// The steps before it stand and can be undone; a profile run finds it in the rule.
+#[test]
+fn a_jump_below_cell_0_after_two_steps() {
+    let before = Machine { flags: 256, mask: 511, ..Machine::fresh() };
+    let cells = ["ADDI R1, #3", "LDST R1, R1, R0", "BZ R0, #65532", "CPSWP R0, R0, R0"].map(cell).to_vec();
+    let mut runner = Runner::new(before.clone(), cells, vec![0; 80]);
+    assert_eq!(runner.run(2), Answer::stop(0, 2));
+    let after = (runner.machine.clone(), runner.cells.clone(), runner.journal.clone());
+    for budget in [1, 2, u64::MAX] {
+        assert_eq!(runner.run(budget), Answer::stop(13, 0));
+    }
+    assert_eq!(runner.profile_run(3, 1), Answer { place: 2, ..Answer::stop(60, 0) });
+    assert_eq!((runner.machine.clone(), runner.cells.clone(), runner.journal.clone()), after);
+    assert_eq!(runner.back(9), Answer::stop(8, 2));
+    assert_eq!(runner.machine, before);
+    assert_eq!(runner.run(3), Answer::stop(13, 2));
+    assert_eq!((runner.machine, runner.cells, runner.journal), after);
+}
+
+#[test]
+fn a_job_that_jumps_below_cell_0() {
+    let job = job_of(&["ADDI R1, #5", "BZ R0, #65533"]);
+    assert_eq!(runjob(&job).0, "exit 13 steps 1 pc 1 flags 0\nR1 5\n");
 }
 
 #[test]

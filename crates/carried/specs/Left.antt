@@ -35,12 +35,15 @@ toldFault = 2 * flagsBound
 abbrev pub toldFloat : ℕ
 toldFloat = 4 * flagsBound
 
+abbrev pub toldWild : ℕ
+toldWild = 8 * flagsBound
+
 abbrev pub toldBy : ℕ → Answer → ℕ → ℕ
 toldBy told Onward raised = cond (eqb raised 0) told raised
 toldBy told (Interrupt value imm) raised = toldInt
 
 abbrev pub toldRefused : ℕ → ℕ
-toldRefused k = cond (eqb k 5) toldFault toldFloat
+toldRefused k = cond (eqb k 5) toldFault (cond (eqb k 6) toldFloat toldWild)
 
 -- an effect carried out, or nothing done but that it is told
 abbrev pub doneBy : ℕ → Effect → State → Left

@@ -33,6 +33,8 @@ impl Told {
     pub const FAULT: u32 = 2 * Settings::FLAGS_BOUND;
 
     pub const FLOAT: u32 = 4 * Settings::FLAGS_BOUND;
+
+    pub const WILD: u32 = 8 * Settings::FLAGS_BOUND;
 }
 
 // The PC after one that is at pc.

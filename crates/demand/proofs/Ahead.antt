@@ -1,4 +1,4 @@
--- One step of a rule that a profile allows: PC rises, the code stays as it is, and there is neither an INT nor float arithmetic.
+-- One step of a rule that a profile allows: PC rises, the code stays as it is, and there is neither an INT nor float arithmetic nor a wild jump.
 -- Assumes nothing.
 use Prim.Native.Nat.{ℕ, _+_, _%_, _^_, _≤_, _<_}
 use mathlib.Core.Path.{_≡_, refl, sym, ap, _∙_}
@@ -15,10 +15,12 @@ use Rattle.machine.specs.declared.Kind.the-variants.{Profile}
 use Rattle.machine.specs.State.{State, pcOf, mostCells}
 use Rattle.machine.specs.Addresses.{maskAddress, modeAddress}
 use Rattle.machine.proofs.Tests.{picked}
-use Rattle.effect.specs.Parts.{Write, Effect, Onward, Interrupt, still, store, load}
+use Rattle.effect.specs.Parts.{Effect, Onward, Interrupt, still, store, load}
 use Rattle.effect.specs.Action.{Action, Cpswp, Ldst, Put, Operate, Split, Bz, Int, Float, Illegal, Value, R, Imm, Extended, Lower, Upper}
 use Rattle.effect.specs.Operands.{reg, nextOf, valueOf}
 use Rattle.effect.specs.Effect.{illegalLoad, illegalStore, effectOf}
+use Rattle.effect.specs.Refusal.{wild}
+use Rattle.effect.proofs.Branch.{tame}
 use Rattle.journal.specs.Journal.{writesIn, regsAfter, cellsAfter}
 use Rattle.journal.proofs.Lists.{miss}
 use Rattle.journal.proofs.Undo.{length-cells}
@@ -26,6 +28,7 @@ use Rattle.profile.specs.declared.Flaw.the-variants as flaw
 use Rattle.profile.specs.declared.Judged.{Judged}
 use Rattle.profile.specs.declared.Judged.the-variants.{Allowed, Flawed}
 use Rattle.profile.specs.Profile.{ends, into, judgedBy, judgedOf}
+use Rattle.profile.specs.Profile as profile
 use Rattle.step.specs.Step.{actionIn, storesInto, refusalOf, effectIn}
 use Rattle.step.proofs.Keeps.{past, clear-in}
 
@@ -38,7 +41,7 @@ pub record Code (l : ℕ) (cells : List ℕ) : Type 0 where
 flawed-allowed : {P : Type 0} {f : _} → Flawed f ≡ Allowed → P
 flawed-allowed h = let z : _≡_ {A = ℕ} 0 1 = cc in absurd (omega arith)
 
-false-true : {P : Type 0} → false ≡ true → P
+pub false-true : {P : Type 0} → false ≡ true → P
 false-true h = let z : _≡_ {A = ℕ} 0 1 = cc in absurd (omega arith)
 
 -- a target that is allowed is not R255
@@ -49,6 +52,14 @@ no-target false rest h = (refl, h)
 turned : (i : ℕ) → eqb i 255 ≡ false → eqb 255 i ≡ false
 turned i h = ne-eqb 255 i (λ e. eqb-false i 255 h (sym e))
 
+-- a branch that is allowed goes forward
+goes-ahead : (imm : ℕ) → profile.ahead imm ≡ Allowed → imm < 32768
+goes-ahead imm h = go (ltb 32767 imm) refl h
+  where
+    go : (t : Bool) → ltb 32767 imm ≡ t → cond t (Flawed flaw.Back) Allowed ≡ Allowed → imm < 32768
+    go true e h = flawed-allowed h
+    go false e h = omega (arith, ltb-false 32767 imm e)
+
 -- LDUI with #65535 leads past all cells
 high : (s : State) (v : Value) → ends v ≡ true → 0xFFFF0000 ≤ valueOf s v
 high s (Upper i x) h = let e = eqb-true x 65535 h in omega arith
@@ -56,6 +67,19 @@ high s (R i) h = false-true h
 high s (Imm x) h = false-true h
 high s (Extended e x) h = false-true h
 high s (Lower i x) h = false-true h
+
+-- R255 that no write names holds the effect's PC
+pub pc-stays : (e : Effect) (regs : List ℕ) → (e .a .used && eqb 255 (e .a .number)) ≡ false → (e .b .used && eqb 255 (e .b .number)) ≡ false
+    → length regs ≡ 256 → pcOf (regsAfter e regs) ≡ e .pc
+unfolding regsAfter
+pc-stays e regs p q long = go (e .reversed)
+  where
+    first : getD (set regs 255 (e .pc)) 255 0 ≡ e .pc
+    first = getD-set-same regs 255 (e .pc) 0 (omega (arith, long))
+
+    go : (f : Bool) → pcOf (writesIn f (e .a) (e .b) (set regs 255 (e .pc))) ≡ e .pc
+    go true = miss (e .a .used) _ (e .a .number) 255 (e .a .value) p ∙ miss (e .b .used) _ (e .b .number) 255 (e .b .value) q ∙ first
+    go false = miss (e .b .used) _ (e .b .number) 255 (e .b .value) q ∙ miss (e .a .used) _ (e .a .number) 255 (e .a .value) p ∙ first
 
 -- what a step does that an allowed action asks for
 pub record Ahead (l : ℕ) (s : State) (e : Effect) : Type 0 where
@@ -73,18 +97,9 @@ module _ (l : ℕ) (s : State) (low : pcOf (s .regs) < 65536) where
   next : pcOf (s .regs) < nextOf (s .regs)
   next = omega arith
 
-  pc-first : (pc : ℕ) → length (s .regs) ≡ 256 → getD (set (s .regs) 255 pc) 255 0 ≡ pc
-  pc-first pc long = getD-set-same (s .regs) 255 pc 0 (omega (arith, long))
-
-  pc-stays : (f : Bool) (a b : Write) (pc : ℕ) → (a .used && eqb 255 (a .number)) ≡ false → (b .used && eqb 255 (b .number)) ≡ false
-      → length (s .regs) ≡ 256 → pcOf (writesIn f a b (set (s .regs) 255 pc)) ≡ pc
-  pc-stays true a b pc p q long = miss (a .used) _ (a .number) 255 (a .value) p ∙ miss (b .used) _ (b .number) 255 (b .value) q ∙ pc-first pc long
-  pc-stays false a b pc p q long = miss (b .used) _ (b .number) 255 (b .value) q ∙ miss (a .used) _ (a .number) 255 (a .value) p ∙ pc-first pc long
-
   steadily : (e : Effect) → Steady e → Ahead l s e
-  unfolding regsAfter
   steadily e h = record {
-    later = λ long. rw (pc-stays (e .reversed) (e .a) (e .b) (e .pc) (h .a) (h .b) long) (h .pc);
+    later = λ long. rw (pc-stays e (s .regs) (h .a) (h .b) long) (h .pc);
     kept = h .kept;
   }
 
@@ -125,10 +140,6 @@ module _ (l : ℕ) (s : State) (low : pcOf (s .regs) < 65536) where
   unfolding seOf
   branches imm h = rw (lt-ltb imm 0x8000 h) (omega arith)
 
-  forward : (t : Bool) (imm : ℕ) → ltb 32767 imm ≡ t → cond t (Flawed flaw.Back) Allowed ≡ Allowed → imm < 32768
-  forward true imm e h = flawed-allowed h
-  forward false imm e h = omega (arith, ltb-false 32767 imm e)
-
   ahead : (a : Action) → judgedBy a ≡ Allowed → storesInto l a s ≡ false → Ahead l s (effectOf a s)
   unfolding effectOf judgedBy storesInto
   ahead (Cpswp n m k) h g =
@@ -150,7 +161,7 @@ module _ (l : ℕ) (s : State) (low : pcOf (s .regs) < 65536) where
       steadily _ (record { pc = next; a = turned m (p .0); b = turned k (q .0); kept = false-true })
   ahead (Bz n imm) h g =
       steadily _ (picked Steady (eqb (reg s n) 0) _ _
-      (λ t. record { pc = branches imm (forward (ltb 32767 imm) imm refl h); a = refl; b = refl; kept = false-true }) (λ t. steady))
+      (λ t. record { pc = branches imm (goes-ahead imm h); a = refl; b = refl; kept = false-true }) (λ t. steady))
   ahead (Int n imm) h g = flawed-allowed h
   ahead Float h g = flawed-allowed h
   ahead Illegal h g = flawed-allowed h
@@ -173,7 +184,7 @@ pub allowed-in : (l : ℕ) (s : State) → Code l (s .cells) → pcOf (s .regs) 
 unfolding judgedOf
 allowed-in l s c h = c .allowed (pcOf (s .regs)) h
 
--- an allowed action answers nothing of its own, and is no float arithmetic
+-- an allowed action answers nothing of its own, and is neither float arithmetic nor a wild jump
 module _ (s : State) where
   abbrev Silent : Effect → Type 0
   Silent e = e .answer ≡ Onward
@@ -208,6 +219,10 @@ module _ (s : State) where
   pub no-float : judgedBy (actionIn s) ≡ Allowed → actionIn s ≡ Float → ⊥
   unfolding judgedBy
   no-float h e = flawed-allowed (rw e at h)
+
+  pub no-wild : judgedBy (actionIn s) ≡ Allowed → (n imm : ℕ) → actionIn s ≡ Bz n imm → wild (s .regs) n imm ≡ true → ⊥
+  unfolding judgedBy
+  no-wild h n imm e w = let t = tame (s .regs) n imm (goes-ahead imm (rw e at h)) in false-true (sym t ∙ w)
 
 -- a step of a profile run that is done
 module _ (l : ℕ) (s : State) (code : Code l (s .cells)) (done : refusalOf (Profile l) s ≡ none) where

@@ -1,4 +1,4 @@
--- Which stops a step and the check of a call may name: each is on the list for the call, of document 01 or of document 02, 2026-02.
+-- Which stops a step and the check of a call may name: each is on the list for the call, of document 01 or of document 02, 2026-02 and 2026-04.
 -- Assumes nothing.
 use Prim.Native.Nat.{ℕ, _≤_, _<_}
 use mathlib.Core.Path.{_≡_, refl}
@@ -16,7 +16,7 @@ use Rattle.machine.specs.declared.Settings.{Settings}
 use Rattle.machine.specs.State.{pcOf, State, capacityOf, badCells, badSettings}
 use Rattle.effect.specs.Action.{Action, Cpswp, Ldst, Put, Operate, Split, Bz, Int, Float, Illegal}
 use Rattle.effect.specs.Operands.{reg}
-use Rattle.effect.specs.Refusal.{faults, refusedBy}
+use Rattle.effect.specs.Refusal.{faults, wild, refusedBy}
 use Rattle.machine.proofs.Tests.{picked}
 use Rattle.journal.specs.Journal.{endedOf, regsAfter}
 use Rattle.machine.specs.Stops.{Said, plainly}
@@ -51,23 +51,25 @@ pub record Has (l : List ℕ) (kind : Kind) (s : State) : Type 0 where
   pub off : listed l (outside kind) ≡ true
   pub fault : listed l 5 ≡ true
   pub float : pcOf (s .regs) < codeOf kind (length (s .cells)) → actionIn s ≡ Float → listed l 6 ≡ true
+  pub wild : pcOf (s .regs) < codeOf kind (length (s .cells)) → (n imm : ℕ) → actionIn s ≡ Bz n imm → wild (s .regs) n imm ≡ true → listed l 13 ≡ true
   pub full : pcOf (s .regs) < codeOf kind (length (s .cells)) → capacityOf (s .journal) ≤ s .depth → listed l 7 ≡ true
   pub guard : Named l (guardOf kind (actionIn s) s)
 
-by-action : (l : List ℕ) (s : State) → listed l 5 ≡ true → (a : Action) → (a ≡ Float → listed l 6 ≡ true) → Named l (refusedBy a s)
+pub by-action : (l : List ℕ) (s : State) → listed l 5 ≡ true → (a : Action) → (a ≡ Float → listed l 6 ≡ true)
+    → ((n imm : ℕ) → a ≡ Bz n imm → wild (s .regs) n imm ≡ true → listed l 13 ≡ true) → Named l (refusedBy a s)
 unfolding refusedBy
-by-action l s h (Cpswp n m k) f = tt
-by-action l s h (Ldst n m k) f =
+by-action l s h (Cpswp n m k) f w = tt
+by-action l s h (Ldst n m k) f w =
     picked (Named l) (faults (length (s .cells)) (reg s k) || faults (length (s .cells)) (reg s m)) _ _ (λ t. h) (λ t. tt)
-by-action l s h (Put n v) f = tt
-by-action l s h (Operate op n x y) f = tt
-by-action l s h (Split x n m k) f = tt
-by-action l s h (Bz n imm) f = tt
-by-action l s h (Int n imm) f = tt
-by-action l s h Float f = f refl
-by-action l s h Illegal f = tt
+by-action l s h (Put n v) f w = tt
+by-action l s h (Operate op n x y) f w = tt
+by-action l s h (Split x n m k) f w = tt
+by-action l s h (Bz n imm) f w = picked (Named l) (wild (s .regs) n imm) _ _ (w n imm refl) (λ t. tt)
+by-action l s h (Int n imm) f w = tt
+by-action l s h Float f w = f refl
+by-action l s h Illegal f w = tt
 
-either-named : (l : List ℕ) (o p : Option ℕ) → Named l o → Named l p → Named l (orElse o p)
+pub either-named : (l : List ℕ) (o p : Option ℕ) → Named l o → Named l p → Named l (orElse o p)
 unfolding orElse
 either-named l none p f g = g
 either-named l (some k) p f g = f
@@ -78,7 +80,7 @@ refusal-named l kind s h =
     picked (Named l) (endedOf (s .regs)) _ _ (λ t. h .ended) (λ t.
     picked (Named l) (leb (codeOf kind (length (s .cells))) (pcOf (s .regs))) _ _ (λ t. h .off) (λ u.
     picked (Named l) (leb (capacityOf (s .journal)) (s .depth)) _ _ (λ t. h .full (leb-false _ _ u) (leb-true _ _ t)) (λ t.
-    either-named l _ _ (by-action l s (h .fault) (actionIn s) (h .float (leb-false _ _ u))) (h .guard))))
+    either-named l _ _ (by-action l s (h .fault) (actionIn s) (h .float (leb-false _ _ u)) (h .wild (leb-false _ _ u))) (h .guard))))
 
 answer-fine : (l : List ℕ) (a : Answer) (e : Effect) → listed l 2 ≡ true → ((v i : ℕ) → a ≡ Interrupt v i → listed l 3 ≡ true) → Fine l (answered a e)
 answer-fine l Onward e h f = picked (Fine l) (trapsOf e) _ _ (λ t. h) (λ t. tt)
@@ -95,42 +97,7 @@ pub step-fine : (l : List ℕ) (kind : Kind) (s : State) → Has l kind s → Fi
 unfolding stepOf
 step-fine l kind s h = moved-fine l kind s (refusalOf kind s) refl h (refusal-named l kind s h)
 
--- the stops that a step of a run names from whatever state
-abbrev pub guardStops : Kind → List ℕ
-guardStops Plain = []
-guardStops (Profile l) = 61 ∷ []
-
-abbrev pub stepStops : Kind → List ℕ
-stepStops kind = 1 ∷ 2 ∷ 3 ∷ 5 ∷ 6 ∷ 7 ∷ outside kind ∷ guardStops kind
-
-off-listed : (kind : Kind) → listed (stepStops kind) (outside kind) ≡ true
-unfolding listed
-off-listed Plain = refl
-off-listed (Profile l) = refl
-
-guard-named : (kind : Kind) (s : State) → Named (stepStops kind) (guardOf kind (actionIn s) s)
-unfolding listed
-guard-named Plain s = tt
-guard-named (Profile l) s = picked (Named (stepStops (Profile l))) (storesInto l (actionIn s) s) _ _ (λ t. refl) (λ t. tt)
-
-pub any-step : (kind : Kind) (s : State) → Has (stepStops kind) kind s
-unfolding listed
-any-step kind s = record {
-  ended = refl;
-  trap = refl;
-  int = λ q v i e. refl;
-  off = off-listed kind;
-  fault = refl;
-  float = λ q e. refl;
-  full = λ q e. refl;
-  guard = guard-named kind s;
-}
-
--- a list whose numbers are all on another
-either-way : (t : Bool) {a b : Bool} → (t ≡ true → b ≡ true) → (a ≡ true → b ≡ true) → (t || a) ≡ true → b ≡ true
-either-way true f g h = f refl
-either-way false f g h = g h
-
+-- all numbers of a list are on another
 abbrev pub within : List ℕ → List ℕ → Bool
 within [] r = true
 within (y ∷ l) r = listed r y && within l r
@@ -138,6 +105,45 @@ within (y ∷ l) r = listed r y && within l r
 both : (a b : Bool) → (a && b) ≡ true → (a ≡ true) × (b ≡ true)
 both true b h = (refl, h)
 both false b h = let z : _≡_ {A = ℕ} 0 1 = cc in absurd (omega arith)
+
+-- the stops that hang on the kind of run: PC outside the cells or the code, a store into the code
+abbrev pub kindStops : Kind → List ℕ
+kindStops Plain = 4 ∷ []
+kindStops (Profile l) = 62 ∷ 61 ∷ []
+
+pub by-kind : (l : List ℕ) (kind : Kind) (s : State) → within (kindStops kind) l ≡ true → (listed l (outside kind) ≡ true) × Named l (guardOf kind (actionIn s) s)
+by-kind l Plain s h = (both (listed l 4) true h .0, tt)
+by-kind l (Profile k) s h =
+    let a = both (listed l 62) (listed l 61 && true) h in
+    (a .0, picked (Named l) (storesInto k (actionIn s) s) _ _ (λ t. both (listed l 61) true (a .1) .0) (λ t. tt))
+
+-- the stops that a step of a run names from whatever state
+abbrev pub stepStops : Kind → List ℕ
+stepStops kind = 1 ∷ 2 ∷ 3 ∷ 5 ∷ 6 ∷ 7 ∷ 13 ∷ kindStops kind
+
+of-the-kind : (kind : Kind) → within (kindStops kind) (stepStops kind) ≡ true
+unfolding listed
+of-the-kind Plain = refl
+of-the-kind (Profile l) = refl
+
+pub any-step : (kind : Kind) (s : State) → Has (stepStops kind) kind s
+unfolding listed
+any-step kind s = record {
+  ended = refl;
+  trap = refl;
+  int = λ q v i e. refl;
+  off = by-kind (stepStops kind) kind s (of-the-kind kind) .0;
+  fault = refl;
+  float = λ q e. refl;
+  wild = λ q n imm e t. refl;
+  full = λ q e. refl;
+  guard = by-kind (stepStops kind) kind s (of-the-kind kind) .1;
+}
+
+-- what is on a list is on one that has all its numbers
+either-way : (t : Bool) {a b : Bool} → (t ≡ true → b ≡ true) → (a ≡ true → b ≡ true) → (t || a) ≡ true → b ≡ true
+either-way true f g h = f refl
+either-way false f g h = g h
 
 same-number : (x y : ℕ) (r : List ℕ) → listed r y ≡ true → eqb x y ≡ true → listed r x ≡ true
 same-number x y r h e = rw (eqb-true x y e) h

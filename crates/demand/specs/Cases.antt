@@ -1,4 +1,4 @@
--- Document 01, 'Small cases, proved together', as entries of one table; 8 as document 02 has it.
+-- Document 01, 'Small cases, proved together', as entries of one table; 8 and 10 as document 02 has them.
 use Prim.Native.Nat.{ℕ}
 use Prim.Native.String.{String}
 use mathlib.Core.Bool.{Bool, true, false, _&&_}
@@ -58,8 +58,8 @@ cases =
     -- 9. FFFFFF00: UGTI #17 gives 1, SGTI #17 gives 0.
     case "UGTI R1, #17\n" 0x31010011 (given 0xFFFFFF00 0 0) (leaves 1 0 0 1 0 0) ∷
     case "SGTI R1, #17\n" 0x32010011 (given 0xFFFFFF00 0 0) (leaves 0 0 0 1 0 0) ∷
-    -- 10. At PC 0, taken BZ #65534: PC FFFFFFFF, ended.
-    case "BZ R1, #65534\n" 0x7901FFFE (given 0 0 0) (leaves 0 0 0 0xFFFFFFFF 256 1) ∷
+    -- 10. At PC 0, taken BZ #65534: refused with 13, nothing done (2026-04).
+    case "BZ R1, #65534\n" 0x7901FFFE (given 0 0 0) (leaves 0 0 0 0 0 13) ∷
     -- 11. Taken BZ #65535: PC as before.
     case "BZ R1, #65535\n" 0x7901FFFF (given 0 0 0) (leaves 0 0 0 0 0 0) ∷
     -- 12. Cell 02000000: flag 128.

@@ -1,5 +1,5 @@
 -- Demands 1 and 2: what each call may say; that a run, plain or of a profile, is the definition's step repeated, and a going back its step
--- back, until one of the stops of document 01, 'Stops of step, run and back', and of document 02, 2026-02.
+-- back, until one of the stops of document 01, 'Stops of step, run and back', and of document 02, 2026-02 and 2026-04.
 use Prim.Native.Nat.{ℕ, suc, _+_, _/_, _%_, _<_}
 use mathlib.Core.Path.{_≡_}
 use mathlib.Core.Bool.{Bool, true, false, _||_}
@@ -22,7 +22,7 @@ listed (y ∷ ys) x = eqb x y || listed ys x
 
 -- the numbers of step and run, of a profile run, and of back
 abbrev pub runStops : Kind → List ℕ
-runStops Plain = 0 ∷ 1 ∷ 2 ∷ 3 ∷ 4 ∷ 5 ∷ 6 ∷ 7 ∷ 10 ∷ 11 ∷ 12 ∷ []
+runStops Plain = 0 ∷ 1 ∷ 2 ∷ 3 ∷ 4 ∷ 5 ∷ 6 ∷ 7 ∷ 10 ∷ 11 ∷ 12 ∷ 13 ∷ []
 runStops (Profile l) = 0 ∷ 1 ∷ 2 ∷ 62 ∷ 7 ∷ 5 ∷ 61 ∷ 10 ∷ 11 ∷ 12 ∷ 60 ∷ []
 
 abbrev pub backStops : List ℕ

@@ -1,5 +1,6 @@
 pub mod Pointers
 pub mod Safe
+pub mod Branch
 pub mod Ranges
 pub mod Opcodes
 pub mod Forms

@@ -39,7 +39,7 @@ flags-in flags governed raised f r =
     flags-or (bitAnd flags (2 ^ 32 - 1 - governed)) raised (omega (arith, and-le-l flags (2 ^ 32 - 1 - governed))) r
 
 -- a test that is refused if it holds does not
-passed : (t : Bool) (k : ℕ) → cond t (some k) none ≡ none → t ≡ false
+pub passed : (t : Bool) (k : ℕ) → cond t (some k) none ≡ none → t ≡ false
 passed true k h = absurd (some-none h)
 passed false k h = refl
 

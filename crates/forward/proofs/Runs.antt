@@ -13,7 +13,7 @@ use borrow.Author.Tests.{lt-ltb, eqb-true, eqb-false, lt-leb, leb-true, leb-fals
 use Rattle.machine.specs.State.{State, stateWith, capacityOf, firstSpecial, pcOf}
 use Rattle.machine.specs.declared.Kind.{Kind}
 use Rattle.machine.specs.Stops.{plainly}
-use Rattle.machine.proofs.Tests.{or-left}
+use Rattle.machine.proofs.Tests.{or-left, and-false}
 use Rattle.packed.specs.Packed.{unpackedOf}
 use Rattle.journal.specs.Journal.{endedOf, settledOf}
 use Rattle.step.specs.Step.{codeOf, outside, going, stopped, refusalOf, stepOf}
@@ -21,7 +21,6 @@ use Rattle.step.proofs.Steps.{refused-with, at-end, off-code, full}
 use Rattle.call.specs.Calls.{stopAt, goOn, runFrom}
 use Rattle.carried.specs.Left.{toldInt, toldFault}
 use Rattle.forward.specs.Inner.{heldOf, trapped, stopping, movedBy, endsBy, finalOf, resumeOf, numberOf}
-use Rattle.guard.proofs.Guarded.{and-false}
 
 -- a step that does not stop the run
 module _ (kind : Kind) (n k told : ℕ) (regs : List ℕ) (s cell depth : ℕ) (cells journal : List ℕ) (st : State)

@@ -38,7 +38,7 @@ use Rattle.carried.proofs.Operands.{read}
 use Rattle.forward.specs.Inner.{heldOf, refusalBy, courseBy, movedBy}
 use Rattle.guard.specs.Guard.{guardedOf, storesBelow}
 use Rattle.guard.proofs.Guarded.{passes, caught}
-use Rattle.forward.proofs.Told.{plain, five-or-six}
+use Rattle.forward.proofs.Told.{plain, own-stop}
 
 -- a step, from what it left, with the journal that it left
 pub record Goes (kind : Kind) (st : State) (cell : ℕ) (journal : List ℕ) (l : Left) : Type 0 where
@@ -51,9 +51,10 @@ raised-told : (r : ℕ) → cond (eqb r 0) 0 r ≡ r
 raised-told r = picked (λ (x : ℕ). x ≡ r) (eqb r 0) 0 r (λ t. omega (arith, eqb-true r 0 t)) (λ t. refl)
 
 -- a refusal is told as one, and as itself
-refused-told : (k : ℕ) → (k ≡ 5) ⊎ (k ≡ 6) → (ltb (toldRefused k) toldFault ≡ false) × (refusalBy (toldRefused k) ≡ plainly k)
+refused-told : (k : ℕ) → (k ≡ 5) ⊎ ((k ≡ 6) ⊎ (k ≡ 13)) → (ltb (toldRefused k) toldFault ≡ false) × (refusalBy (toldRefused k) ≡ plainly k)
 refused-told k (inl e) = (rw e, rw e)
-refused-told k (inr e) = (rw e, rw e)
+refused-told k (inr (inl e)) = (rw e, rw e)
+refused-told k (inr (inr e)) = (rw e, rw e)
 
 -- a stop that a test picks
 stops-by : (t : Bool) (x y : Said) → stopped (cond t x y) ≡ cond t (stopped x) (stopped y)
@@ -140,7 +141,7 @@ module _ (kind : Kind) (regs cells journal : List ℕ) (s depth at cell : ℕ) (
           long = length-regs e regs ∙ long;
         }
 
-    refused-at : (k : ℕ) → refusedBy action held ≡ some k → (k ≡ 5) ⊎ (k ≡ 6) → Stepped (left regs cells part (packedOf (unpackedOf s)) (toldRefused k))
+    refused-at : (k : ℕ) → refusedBy action held ≡ some k → (k ≡ 5) ⊎ ((k ≡ 6) ⊎ (k ≡ 13)) → Stepped (left regs cells part (packedOf (unpackedOf s)) (toldRefused k))
     unfolding movedBy
     refused-at k n o = record {
       step = rw (← refused-with kind held k (refusal ∙ n), refused-told k o .0, refused-told k o .1, unpacked-packed (unpackedOf s) settled, put-same at (at + 8 - at) journal);
@@ -151,7 +152,7 @@ module _ (kind : Kind) (regs cells journal : List ℕ) (s depth at cell : ℕ) (
     became : (o : Option ℕ) → refusedBy action held ≡ o → Stepped (leftOf 0 action (before regs s cells part))
     unfolding leftOf becameOf
     became none n = rw (refusal-blind held 0 part action, effect-blind held 0 part action, n) (done n)
-    became (some k) n = rw (refusal-blind held 0 part action, n) (refused-at k n (five-or-six held action k n))
+    became (some k) n = rw (refusal-blind held 0 part action, n) (refused-at k n (own-stop held action k n))
 
     pub stepped : (l : Left) → l ≡ leftOf 0 action (before regs s cells part) → Stepped l
     stepped l e = rw e (became (refusedBy action held) refl)

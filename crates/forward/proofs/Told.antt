@@ -1,4 +1,4 @@
--- What an instruction tells: INT alone answers, what the others raise is below the flags' bound, and a refusal is 5 or 6.
+-- What an instruction tells: INT alone answers, what the others raise is below the flags' bound, and a refusal is 5, 6 or 13.
 -- Assumes nothing.
 use Prim.Native.Nat.{ℕ, _<_}
 use mathlib.Core.Path.{_≡_, refl}
@@ -18,7 +18,7 @@ use Rattle.effect.specs.Action.{Action, Cpswp, Ldst, Put, Operate, Split, Bz, I
 use Rattle.effect.specs.Operands.{reg, valueOf, behind}
 use Rattle.effect.specs.Parts.{Onward, Effect, still, store, load}
 use Rattle.effect.specs.Effect.{illegalLoad, illegalStore, effectOf}
-use Rattle.effect.specs.Refusal.{refusedBy, faults}
+use Rattle.effect.specs.Refusal.{faults, wild, refusedBy}
 use Rattle.effect.proofs.Rows.{by-rows}
 
 -- 122 alone is INT
@@ -84,18 +84,19 @@ module _ (s : State) where
   pub plain : (c : ℕ) → eqb (opcodeOf c) 122 ≡ false → Plain (effectOf (actionOf (decodeOf c)) s)
   plain c h = plain-by _ (quiet c h)
 
-  pub five-or-six : (a : Action) (k : ℕ) → refusedBy a s ≡ some k → (k ≡ 5) ⊎ (k ≡ 6)
+  -- a stop that a test names
+  named-by : (t : Bool) (j k : ℕ) → cond t (some j) none ≡ some k → k ≡ j
+  named-by true j k h = cc
+  named-by false j k h = never (cc)
+
+  pub own-stop : (a : Action) (k : ℕ) → refusedBy a s ≡ some k → (k ≡ 5) ⊎ ((k ≡ 6) ⊎ (k ≡ 13))
   unfolding refusedBy
-  five-or-six (Ldst n m l) k h = go (faults (length (s .cells)) (reg s l) || faults (length (s .cells)) (reg s m)) h
-    where
-      go : (t : Bool) → cond t (some 5) none ≡ some k → (k ≡ 5) ⊎ (k ≡ 6)
-      go true e = inl (cc)
-      go false e = never (cc)
-  five-or-six Float k h = inr (cc)
-  five-or-six (Cpswp n m l) k h = never (cc)
-  five-or-six (Put n v) k h = never (cc)
-  five-or-six (Operate op n x y) k h = never (cc)
-  five-or-six (Split x n m l) k h = never (cc)
-  five-or-six (Bz n imm) k h = never (cc)
-  five-or-six (Int n imm) k h = never (cc)
-  five-or-six Illegal k h = never (cc)
+  own-stop (Ldst n m l) k h = inl (named-by (faults (length (s .cells)) (reg s l) || faults (length (s .cells)) (reg s m)) 5 k h)
+  own-stop Float k h = inr (inl (cc))
+  own-stop (Bz n imm) k h = inr (inr (named-by (wild (s .regs) n imm) 13 k h))
+  own-stop (Cpswp n m l) k h = never (cc)
+  own-stop (Put n v) k h = never (cc)
+  own-stop (Operate op n x y) k h = never (cc)
+  own-stop (Split x n m l) k h = never (cc)
+  own-stop (Int n imm) k h = never (cc)
+  own-stop Illegal k h = never (cc)

@@ -13,7 +13,7 @@ use Rattle.packed.specs.Packed.{unpackedOf}
 use Rattle.journal.specs.Journal.{endedOf, settledOf}
 use Rattle.step.specs.Step.{outside, Course, going, stopped, refused, Moved}
 use Rattle.call.specs.Calls.{Out, stopAt, goOn, runFrom}
-use Rattle.carried.specs.Left.{toldInt, toldFault}
+use Rattle.carried.specs.Left.{toldInt, toldFault, toldFloat}
 
 -- the state that the code holds
 abbrev pub heldOf : List ℕ → ℕ → ℕ → List ℕ → List ℕ → State
@@ -27,9 +27,9 @@ trapped told s = not (eqb (bitAnd told (unpackedOf s .mask)) 0)
 abbrev pub stopping : ℕ → ℕ → Bool
 stopping told s = leb toldInt told || trapped told s
 
--- the stop of a step that is refused: 5 or 6
+-- the stop of a step that is refused: 5, 6 or 13
 abbrev pub refusalBy : ℕ → Said
-refusalBy told = plainly (cond (eqb told toldFault) 5 6)
+refusalBy told = plainly (cond (eqb told toldFault) 5 (cond (eqb told toldFloat) 6 13))
 
 -- the stop after a step that is done and stops: 1, 3, 2
 abbrev pub stopAfter : ℕ → List ℕ → ℕ → Said

@@ -51,14 +51,17 @@ fn settled(s: u32, due: bool) -> Settings
     settings
 }
 
-// The stop of a step that was refused: 5 or 6.
+// The stop of a step that was refused: 5, 6 or 13.
 fn refusal(told: u32) -> Stop
     ensures { λ r. ⌜ saidOf r ≡ refusalBy told ⌝ }
 {
     if told == Told::FAULT {
         return Stop::Fault;
     }
-    Stop::Float
+    if told == Told::FLOAT {
+        return Stop::Float;
+    }
+    Stop::Wild
 }
 
 // The stop after a step that is done and stops: 1, 3, 2.

@@ -1,6 +1,6 @@
 -- A store into a profile's code, as the code asks for it and as the definition does.
 -- Assumes nothing.
-use Prim.Native.Nat.{ℕ, _≤_}
+use Prim.Native.Nat.{ℕ}
 use mathlib.Core.Path.{_≡_, refl}
 use mathlib.Core.Bool.{Bool, true, false, cond, not, _&&_, _||_}
 use mathlib.Core.List.{List}
@@ -14,6 +14,7 @@ use Rattle.cell.proofs.Tests.{never}
 use Rattle.machine.specs.declared.Kind.{Kind}
 use Rattle.machine.specs.declared.Kind.the-variants.{Plain, Profile}
 use Rattle.machine.specs.State.{State}
+use Rattle.machine.proofs.Tests.{and-false}
 use Rattle.effect.specs.Action.{Action, actionOf}
 use Rattle.effect.specs.Operands.{operandOf, reg}
 use Rattle.effect.specs.Refusal.{faults, refusedBy}
@@ -53,10 +54,6 @@ unfolding storesBelow
 unguarded size regs cell = rw (le-ltb (operandOf regs (mOf cell)) 0 (omega arith)) (nothing (eqb (opcodeOf cell) 1) (leb 1 (operandOf regs (mOf cell))) _)
 
 -- the tests of a store, as the code asks them
-pub and-false : (t : Bool) → (t && false) ≡ false
-and-false true = refl
-and-false false = refl
-
 below-by : (x guard : ℕ) (e f : Bool) → eqb x 0 ≡ e → leb guard x ≡ f → (leb 1 x && ltb x guard) ≡ not (e || f)
 below-by x guard true f p q = rw (lt-leb 1 x (omega (arith, eqb-true x 0 p)))
 below-by x guard false true p q = rw (le-ltb x guard (leb-true guard x q)) (and-false (leb 1 x))

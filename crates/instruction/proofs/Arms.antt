@@ -2,7 +2,7 @@
 -- Assumes nothing.
 use Prim.Native.Nat.{ℕ, _^_, _≤_, _<_}
 use mathlib.Core.Path.{_≡_, refl, sym, _∙_}
-use mathlib.Core.Bool.{Bool, true, false, not, _||_, _&&_}
+use mathlib.Core.Bool.{Bool, false, not, _||_, _&&_}
 use mathlib.Core.Logic.{_⊎_, inl, inr}
 use mathlib.Core.List.{List, [], _∷_}
 use native.Mathlib.Omega.{arith}
@@ -11,6 +11,7 @@ use borrow.Author.Tests.{lt-leb, ne-eqb}
 use Rattle.cell.specs.Cell.{within, legal, opcodeOf, decodeOf}
 use Rattle.cell.proofs.Tests.{count, none-passes}
 use Rattle.machine.specs.State.{State}
+use Rattle.machine.proofs.Tests.{and-false}
 use Rattle.packed.proofs.Laws.{packed-unpacked}
 use Rattle.effect.specs.Action.{Action, Float, Illegal, actionOf}
 use Rattle.effect.specs.Refusal.{refusedBy}
@@ -53,11 +54,7 @@ none-left = refl
 
 outside : (x : ℕ) → (x < 80) ⊎ (107 ≤ x) → within 80 106 x ≡ false
 outside x (inl h) = rw (lt-leb 80 x h)
-outside x (inr h) = rw (lt-leb x 106 h) (go (leb 80 x))
-  where
-    go : (t : Bool) → (t && false) ≡ false
-    go true = refl
-    go false = refl
+outside x (inr h) = rw (lt-leb x 106 h) (and-false (leb 80 x))
 
 pub others : (c x : ℕ) → x ≡ opcodeOf c → x < 256 → NoneOf matched x → (x < 80) ⊎ (107 ≤ x) → actionOf (decodeOf c) ≡ Illegal
 others c x e small n o =

@@ -84,7 +84,7 @@ pub fn carry_out(
             s
         }
         107 => split(part, regs, s, cell, Extension::Ex),
-        121 => branch(part, regs, s, cell),
+        121 => branch(part, regs, s, cell, told),
         122 => interrupt(part, regs, s, cell, told),
         _ => illegal(part, regs, s, told),
     }

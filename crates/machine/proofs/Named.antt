@@ -4,7 +4,7 @@ use mathlib.Core.Path.{_≡_, refl, sym, ap, _∙_}
 use mathlib.Core.Bool.{cond}
 use lib.Dec.{eqb}
 use Rattle.machine.specs.declared.Stop.{Stop}
-use Rattle.machine.specs.declared.Stop.the-variants.{Done, Ended, Trap, Int, Fetch, Fault, Float, Full, Start, Damaged, Unsettled, Deep, Cells, Barred, Overwrite, Outside}
+use Rattle.machine.specs.declared.Stop.the-variants.{Done, Ended, Trap, Int, Fetch, Fault, Float, Full, Start, Damaged, Unsettled, Deep, Cells, Wild, Barred, Overwrite, Outside}
 use Rattle.machine.specs.Stops.{Said, saidOf}
 
 -- the stop that was said
@@ -23,8 +23,9 @@ heard x =
     (cond (eqb (x .number) 10) Unsettled
     (cond (eqb (x .number) 11) Deep
     (cond (eqb (x .number) 12) Cells
+    (cond (eqb (x .number) 13) Wild
     (cond (eqb (x .number) 60) (Barred (x .place))
-    (cond (eqb (x .number) 61) Overwrite Outside))))))))))))))
+    (cond (eqb (x .number) 61) Overwrite Outside)))))))))))))))
 
 pub heard-said : (x : Stop) → heard (saidOf x) ≡ x
 heard-said Done = refl
@@ -40,6 +41,7 @@ heard-said Damaged = refl
 heard-said Unsettled = refl
 heard-said Deep = refl
 heard-said Cells = refl
+heard-said Wild = refl
 heard-said (Barred p) = refl
 heard-said Overwrite = refl
 heard-said Outside = refl

@@ -1,7 +1,7 @@
--- What a call says at its end: document 01, 'Stops of step, run and back'; 60 to 62 are those of 2026-02.
+-- What a call says at its end: document 01, 'Stops of step, run and back'; 60 to 62 are those of 2026-02, 13 is that of 2026-04.
 use Prim.Native.Nat.{ℕ}
 use Rattle.machine.specs.declared.Stop.{Stop}
-use Rattle.machine.specs.declared.Stop.the-variants.{Done, Ended, Trap, Int, Fetch, Fault, Float, Full, Start, Damaged, Unsettled, Deep, Cells, Barred, Overwrite, Outside}
+use Rattle.machine.specs.declared.Stop.the-variants.{Done, Ended, Trap, Int, Fetch, Fault, Float, Full, Start, Damaged, Unsettled, Deep, Cells, Wild, Barred, Overwrite, Outside}
 
 -- A stop as it is answered: its number, two values, which only INT fills, and a place, which only 60 fills.
 pub record Said : Type 0 where
@@ -33,6 +33,7 @@ saidOf Damaged = plainly 9
 saidOf Unsettled = plainly 10
 saidOf Deep = plainly 11
 saidOf Cells = plainly 12
+saidOf Wild = plainly 13
 saidOf (Barred place) = barredAt place
 saidOf Overwrite = plainly 61
 saidOf Outside = plainly 62

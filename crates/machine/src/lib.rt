@@ -63,7 +63,7 @@ pub enum Kind {
     Profile(usize),
 }
 
-// Why a call stopped, in the order of the stops' numbers: 0 to 12, 60 to 62.
+// Why a call stopped, in the order of the stops' numbers: 0 to 13, 60 to 62.
 pub enum Stop {
     Done,
     Ended,
@@ -78,6 +78,7 @@ pub enum Stop {
     Unsettled,
     Deep,
     Cells,
+    Wild,
     Barred { place: usize },
     Overwrite,
     Outside,
@@ -102,6 +103,7 @@ impl Stop {
             Stop::Unsettled => 10,
             Stop::Deep => 11,
             Stop::Cells => 12,
+            Stop::Wild => 13,
             Stop::Barred { place: _ } => 60,
             Stop::Overwrite => 61,
             Stop::Outside => 62,

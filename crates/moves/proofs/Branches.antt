@@ -1,4 +1,4 @@
--- A branch, over registers whose PC has moved on.
+-- A branch: refused as wild, or over registers whose PC has moved on.
 -- Assumes nothing.
 use Prim.Native.Nat.{ℕ, _+_, _^_, _<_}
 use mathlib.Core.Path.{_≡_}
@@ -16,14 +16,20 @@ use Rattle.effect.specs.Action.{Bz}
 use Rattle.effect.specs.Operands.{nextOf, operandOf}
 use Rattle.effect.specs.Parts.{noWrite, noStore}
 use Rattle.effect.specs.Effect.{effectOf}
-use Rattle.effect.specs.Refusal.{refusedBy}
+use Rattle.effect.specs.Refusal.{wild, refusedBy}
 use Rattle.effect.specs.Becomes.{becameOf}
 use Rattle.journal.specs.Words.{entryWith}
 use Rattle.journal.specs.Journal.{regsAfter, cellsAfter, entryOf, entered}
-use Rattle.carried.specs.Left.{left, leftOf, before}
+use Rattle.carried.specs.Left.{left, leftOf, before, toldWild}
 use Rattle.carried.proofs.Operands.{read}
 
-module _ (n imm s told : ℕ) (regs cells part part' : List ℕ) (small : s < 2 ^ 32) (long : length regs ≡ 256)
+-- nothing is done, and that is told
+pub runs-wild : (n imm s told : ℕ) (regs cells part : List ℕ) → s < 2 ^ 32 → wild regs n imm ≡ true
+    → left regs cells part s toldWild ≡ leftOf told (Bz n imm) (before regs s cells part)
+unfolding leftOf becameOf refusedBy
+runs-wild n imm s told regs cells part small h = rw (h, packed-unpacked s small)
+
+module _ (n imm s told : ℕ) (regs cells part part' : List ℕ) (small : s < 2 ^ 32) (long : length regs ≡ 256) (tame : wild regs n imm ≡ false)
     (entry : part' ≡ entered part (entryWith regs (unpackedOf s) noWrite noWrite noStore 0)) where
   -- Rn is not 0: PC has moved on, and that is all
   pub stays : (getD (set regs 255 (nextOf regs)) n 0 ≡ 0 → ⊥)
@@ -31,7 +37,7 @@ module _ (n imm s told : ℕ) (regs cells part part' : List ℕ) (small : s < 2 
   unfolding leftOf becameOf refusedBy effectOf regsAfter cellsAfter entryOf
   stays other =
       let test : eqb (operandOf regs n) 0 ≡ false = rw (← read regs long n) (ne-eqb _ 0 other) in
-      rw (test, entry, packed-unpacked s small)
+      rw (tame, test, entry, packed-unpacked s small)
 
   -- Rn is 0: PC gains se(imm) besides
   pub jumps : getD (set regs 255 (nextOf regs)) n 0 ≡ 0
@@ -40,4 +46,4 @@ module _ (n imm s told : ℕ) (regs cells part part' : List ℕ) (small : s < 2 
   unfolding leftOf becameOf refusedBy effectOf regsAfter cellsAfter entryOf operandOf
   jumps zero =
       let test : eqb (operandOf regs n) 0 ≡ true = rw (← read regs long n) (eq-eqb _ 0 zero) in
-      rw (read regs long 255, set-set, test, entry, packed-unpacked s small)
+      rw (tame, read regs long 255, set-set, test, entry, packed-unpacked s small)

@@ -489,7 +489,7 @@ same-length-49 : tie.Need-same-length-49
 same-length-49 c = search needs
 
 returns-48 : tie.Need-returns-48
-returns-48 c = λ long. arm (c .before .before .before .before .before .before .before .before .before .args .cell) 121 _ _ _ _ _ (c .before .before .before .before .before .before .opcode-of .ensures .0) (c .before .before .before .before .before .match .keys48) (bz _) (c .before .before .branch .ensures _ _ long)
+returns-48 c = λ long. arm (c .before .before .before .before .before .before .before .before .before .before .args .cell) 121 _ _ _ _ _ (c .before .before .before .before .before .before .before .opcode-of .ensures .0) (c .before .before .before .before .before .before .match .keys48) (bz _) (c .before .before .branch .ensures _ long)
 
 same-length-50 : tie.Need-same-length-50
 same-length-50 c = search needs

@@ -1,9 +1,20 @@
--- `moves::branch` meets its contract: either way of its test is a law.
+-- `moves::branch` meets its contract: each way of its two tests is a law.
+-- Assumes nothing.
+use mathlib.Core.Path.{sym, _∙_}
 use borrow.Author.Needs.{needs}
 use Rattle.cell.specs.Cell.{nOf, immOf}
-use Rattle.moves.proofs.Branches.{jumps, stays}
+use Rattle.moves.proofs.Branches.{runs-wild, jumps, stays}
 use Rattle.moves.proofs.branch.Statement.{statement}
 use Rattle.moves.proofs.branch.Tie as tie
+
+is-wild-requires : tie.Need-is-wild-requires
+is-wild-requires c κs = search needs
+
+returns : tie.Need-returns
+returns c = λ cells. λ long.
+    let a = c .before .before .before .before .args in
+    let w = c .before .is-wild .ensures in
+    runs-wild (nOf (a .cell)) (immOf (a .cell)) (a .s) _ (a .regs .now) cells (a .part .now) (search needs) (sym w ∙ c .if1 .taken)
 
 move-on-requires : tie.Need-move-on-requires
 move-on-requires c κs = search needs
@@ -14,11 +25,11 @@ n-of-requires c κs = search needs
 cast-n : tie.Need-cast-n
 cast-n c = search needs
 
-mul-if1 : tie.Need-mul-if1
-mul-if1 c = search needs
+mul-if2 : tie.Need-mul-if2
+mul-if2 c = search needs
 
-element-copy-out-if1 : tie.Need-element-copy-out-if1
-element-copy-out-if1 c = search needs
+element-copy-out-if2 : tie.Need-element-copy-out-if2
+element-copy-out-if2 c = search needs
 
 element-copy-out-next : tie.Need-element-copy-out-next
 element-copy-out-next c = search needs
@@ -38,39 +49,43 @@ element-write-regs c = search needs
 same-length : tie.Need-same-length
 same-length c = search needs
 
-returns : tie.Need-returns
-returns c = λ cells. λ told. λ long.
-    let a = c .before .before .before .before .before .before .before .before .before .before .before .before .before .args in
+returns-2 : tie.Need-returns-2
+returns-2 c = λ cells. λ long.
+    let a = c .before .before .before .before .before .before .before .before .before .before .before .before .before .before .before .before .args in
     let m = c .before .before .before .before .before .before .before .before .before .move-on .ensures in
-    let zero = rw (m .1, c .before .before .before .before .before .before .n-of .ensures .0) at (c .before .before .before .before .if1 .taken) in
+    let tame = sym (c .before .before .before .before .before .before .before .before .before .before .before .before .before .is-wild .ensures) ∙ c .before .before .before .before .before .before .before .before .before .before .before .before .if1 .left in
+    let zero = rw (m .1, c .before .before .before .before .before .before .n-of .ensures .0) at (c .before .before .before .before .if2 .taken) in
     rw (c .wrapping-add-u32 .ensures, c .before .se .ensures, c .before .before .imm-of .ensures, m .1)
-    (jumps (nOf (a .cell)) (immOf (a .cell)) (a .s) told (a .regs .now) cells (a .part .now) _ (search needs) long (m .0) zero)
+    (jumps (nOf (a .cell)) (immOf (a .cell)) (a .s) _ (a .regs .now) cells (a .part .now) _ (search needs) long tame (m .0) zero)
 
 same-length-2 : tie.Need-same-length-2
 same-length-2 c = search needs
 
-returns-2 : tie.Need-returns-2
-returns-2 c = λ cells. λ told. λ long.
-    let a = c .before .before .before .before .before .before .before .before .before .args in
+returns-3 : tie.Need-returns-3
+returns-3 c = λ cells. λ long.
+    let a = c .before .before .before .before .before .before .before .before .before .before .before .before .args in
     let m = c .before .before .before .before .before .move-on .ensures in
-    let other = rw (m .1, c .before .before .n-of .ensures .0) at (c .if1 .left) in
-    rw (m .1) (stays (nOf (a .cell)) (immOf (a .cell)) (a .s) told (a .regs .now) cells (a .part .now) _ (search needs) long (m .0) other)
+    let tame = sym (c .before .before .before .before .before .before .before .before .before .is-wild .ensures) ∙ c .before .before .before .before .before .before .before .before .if1 .left in
+    let other = rw (m .1, c .before .before .n-of .ensures .0) at (c .if2 .left) in
+    rw (m .1) (stays (nOf (a .cell)) (immOf (a .cell)) (a .s) _ (a .regs .now) cells (a .part .now) _ (search needs) long tame (m .0) other)
 
 pub branch-spec : {M : Type 1} → statement M
 branch-spec =
     tie.close
     (tie.spec
+    is-wild-requires
+    returns
     move-on-requires
     n-of-requires
     cast-n
-    mul-if1
-    element-copy-out-if1
+    mul-if2
+    element-copy-out-if2
     element-copy-out-next
     imm-of-requires
     se-requires
     wrapping-add-u32-requires
     element-write-regs
     same-length
-    returns
+    returns-2
     same-length-2
-    returns-2)
+    returns-3)

@@ -1,4 +1,4 @@
--- `forward::after::refusal` meets its contract: the test picks the case.
+-- `forward::after::refusal` meets its contract: the tests pick the case.
 -- Assumes nothing.
 use borrow.Author.Tests.{ne-eqb}
 use Rattle.forward.proofs.after.refusal.Statement.{statement}
@@ -8,7 +8,10 @@ returns : tie.Need-returns
 returns c = rw (c .if1 .taken)
 
 returns-2 : tie.Need-returns-2
-returns-2 c = rw (ne-eqb _ _ (c .if1 .left))
+returns-2 c = rw (c .if2 .taken)
+
+returns-3 : tie.Need-returns-3
+returns-3 c = rw (ne-eqb _ _ (c .before .if1 .left), ne-eqb _ _ (c .if2 .left))
 
 pub refusal-spec : {M : Type 1} → statement M
-refusal-spec = tie.close (tie.spec returns returns-2)
+refusal-spec = tie.close (tie.spec returns returns-2 returns-3)
