@@ -4,6 +4,7 @@ pub mod Outcome
 pub mod Repeat
 pub mod Ahead
 pub mod Forward
+pub mod Exit
 pub mod Return
 pub mod Illegal
 pub mod Travel

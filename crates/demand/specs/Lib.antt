@@ -1,5 +1,6 @@
 pub mod Cases
 pub mod Journey
 pub mod Forward
+pub mod Exit
 pub mod Demands
 pub mod Reload
