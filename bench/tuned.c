@@ -15,8 +15,8 @@
  */
 #include "program.h"
 
-/* What a step tells: 0 if it simply goes on, the flags that it raised (below 512), or one of these. The last two did nothing. */
-enum { TOLD_INTERRUPT = 512, TOLD_FAULT = 1024, TOLD_FLOATS = 2048 };
+/* What a step tells: 0 if it simply goes on, the flags that it raised (below 512), or one of these. The last three did nothing. */
+enum { TOLD_INTERRUPT = 512, TOLD_FAULT = 1024, TOLD_FLOATS = 2048, TOLD_WILD = 4096 };
 
 #define mostly(condition) __builtin_expect(condition, 1)
 
@@ -207,11 +207,18 @@ static inline uint32_t split(struct step t, uint32_t (*extend)(uint32_t))
     return t.settings;
 }
 
-static inline uint32_t bz(struct step t)
+static inline uint32_t bz(struct step t, uint32_t *told)
 {
-    enter_none(t);
-    if (t.regs[t.cell[2]] == 0)
-        t.regs[PC] = t.pc + 1 + se(imm_of(t.cell));
+    advance(t);
+    if (t.regs[t.cell[2]] == 0) {
+        int32_t target = (int32_t)t.pc + 1 + (int16_t)imm_of(t.cell); /* no wrap: PC is below M */
+        if (target < 0) {
+            *told = TOLD_WILD;
+            return t.settings;
+        }
+        t.regs[PC] = target;
+    }
+    enter(t, 0, 0, 0, 0, 0, 0);
     return t.settings;
 }
 
@@ -344,7 +351,7 @@ static inline uint32_t execute(struct step t, uint32_t *told, uint32_t *cells, s
     case 54: return split(t, se);
     case 80 ... 106: *told = TOLD_FLOATS; return t.settings;
     case 107: return split(t, ex);
-    case 121: return bz(t);
+    case 121: return bz(t, told);
     case 122: return interrupt(t, told);
     default: return illegal(t, told);
     }
@@ -366,6 +373,8 @@ static enum stop stop_of(uint32_t told, uint32_t pc, uint64_t count, uint64_t bu
         return FAULT;
     if (told == TOLD_FLOATS)
         return FLOATS;
+    if (told == TOLD_WILD)
+        return WILD;
     if (pc >= FIRST_SPECIAL && count > 0)
         return ENDED;
     if (told)

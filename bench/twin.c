@@ -152,9 +152,13 @@ static inline enum stop step(struct machine *m, uint32_t *cells, size_t size, ui
         regs[l] = opcode == 54 ? se(rn >> 16) : ex(rn >> 16);
         goto done;
     case 121:
+        if (rn == 0) {
+            int32_t target = (int32_t)next + (int16_t)imm; /* no wrap: PC is below M */
+            if (target < 0)
+                goto wild;
+            regs[PC] = target;
+        }
         enter(entry, 0, 0, 0, 0, 0, 0);
-        if (rn == 0)
-            regs[PC] = next + se(imm);
         goto done;
     case 122:
         enter(entry, 0, 0, 0, 0, 0, 0);
@@ -191,6 +195,9 @@ fault:
 floats:
     regs[PC] = pc;
     return FLOATS;
+wild:
+    regs[PC] = pc;
+    return WILD;
 }
 
 static struct ran run(struct machine *m, uint32_t *cells, size_t size, uint32_t *journal, size_t words, uint64_t budget)
