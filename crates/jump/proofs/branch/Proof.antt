@@ -1,11 +1,11 @@
--- `moves::branch` meets its contract: each way of its two tests is a law.
+-- `jump::branch` meets its contract: each way of its two tests is a law.
 -- Assumes nothing.
 use mathlib.Core.Path.{sym, _∙_}
 use borrow.Author.Needs.{needs}
 use Rattle.cell.specs.Cell.{nOf, immOf}
-use Rattle.moves.proofs.Branches.{runs-wild, jumps, stays}
-use Rattle.moves.proofs.branch.Statement.{statement}
-use Rattle.moves.proofs.branch.Tie as tie
+use Rattle.jump.proofs.Branches.{runs-wild, jumps, stays}
+use Rattle.jump.proofs.branch.Statement.{statement}
+use Rattle.jump.proofs.branch.Tie as tie
 
 is-wild-requires : tie.Need-is-wild-requires
 is-wild-requires c κs = search needs

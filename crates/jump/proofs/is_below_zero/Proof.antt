@@ -1,14 +1,14 @@
--- `moves::is_below_zero` meets its contract: in 64 bits the sum is the target itself.
+-- `jump::is_below_zero` meets its contract: in 64 bits the sum is the target itself.
 -- Assumes nothing.
 use mathlib.Core.Path.{ap}
 use Rattle.effect.specs.Refusal.{belowZero}
-use Rattle.moves.proofs.Targets.{first-fits, second-fits, sum-fits, sum-kept}
+use Rattle.jump.proofs.Targets.{first-fits, second-fits, sum-fits, sum-kept}
 use borrow.Author.Needs.{needs}
-use Rattle.moves.proofs.is_below_zero.Statement.{statement}
-use Rattle.moves.proofs.is_below_zero.Tie as tie
+use Rattle.jump.proofs.is_below_zero.Statement.{statement}
+use Rattle.jump.proofs.is_below_zero.Tie as tie
 
-add-raised : tie.Need-add-raised
-add-raised c = search needs
+add-lifted : tie.Need-add-lifted
+add-lifted c = search needs
 
 cast-result : tie.Need-cast-result
 cast-result c = search needs
@@ -31,4 +31,4 @@ returns c = ap belowZero (sum-kept (c .args .pc) (c .args .imm) (c .fits .pc .fi
 pub is-below-zero-spec : {M : Type 1} → statement M
 is-below-zero-spec =
     tie.close
-    (tie.spec add-raised cast-result add-result cast-result-2 sub-result add-result-2 returns)
+    (tie.spec add-lifted cast-result add-result cast-result-2 sub-result add-result-2 returns)

@@ -1,11 +1,11 @@
--- `moves::is_wild` meets its contract: the test on the target picks the case.
+-- `jump::is_wild` meets its contract: the test on the target picks the case.
 -- Assumes nothing.
 use Rattle.cell.specs.Cell.{nOf, immOf}
 use Rattle.effect.proofs.Branch.{below, above}
 use Rattle.carried.proofs.Operands.{within}
 use borrow.Author.Needs.{needs}
-use Rattle.moves.proofs.is_wild.Statement.{statement}
-use Rattle.moves.proofs.is_wild.Tie as tie
+use Rattle.jump.proofs.is_wild.Statement.{statement}
+use Rattle.jump.proofs.is_wild.Tie as tie
 
 element-copy-out-is-below-zero : tie.Need-element-copy-out-is-below-zero
 element-copy-out-is-below-zero c = search needs
