@@ -14,10 +14,13 @@ enum stop { DONE, ENDED, TRAP, INTERRUPT, FETCH, FAULT, FLOATS, FULL, START, DAM
 #define FIRST_SPECIAL 0xFFFF0000u
 #define MASK_ADDRESS 0xFFFF0001u
 #define MODE_ADDRESS 0xFFFF0002u
+#define FIRST_WORD 0xFFFF0300u
+#define LAST_WORD 0xFFFF0304u
 
 struct machine {
     uint32_t regs[256];
     uint32_t flags, mask, mode, depth;
+    uint32_t words[5]; /* given at load */
 };
 
 /* What a call leaves beside the machine; value and imm are INT's. */
@@ -56,6 +59,8 @@ static uint32_t capacity_of(size_t words) { return words / 8 < MOST_ENTRIES ? wo
 
 static int faults(uint32_t p, size_t size) { return p >= size && p < FIRST_SPECIAL; }
 
+static int illegal_load(uint32_t p) { return p > MODE_ADDRESS && !(p >= FIRST_WORD && p <= LAST_WORD); }
+
 static int illegal_store(uint32_t p, uint32_t v)
 {
     return p >= FIRST_SPECIAL && !(p == MASK_ADDRESS && v < 512) && !(p == MODE_ADDRESS && v < 4);
@@ -72,11 +77,14 @@ static uint32_t little(const uint8_t *p, int n)
     return x;
 }
 
-/* Loads a job that keeps the rules of the format; answers 0 for one that does not. */
+/* A kind's place in the order 1, 2, 3, 5, 4; 0 for a kind that is unknown. */
+static uint32_t rank_of(uint32_t kind) { return kind > 5 ? 0 : kind == 5 ? 4 : kind == 4 ? 5 : kind; }
+
+/* Loads a job that keeps the rules of the format; answers 0 for one that does not. The words are zeros unless the job has others. */
 static int load(struct machine *m, uint32_t *cells, size_t size, const uint8_t *job, size_t bytes)
 {
     size_t at = 0, end = 0;
-    uint32_t kind = 0, least = 0;
+    uint32_t rank = 0, least = 0;
     memset(m, 0, sizeof *m);
     m->mode = 3;
     memset(cells, 0, size * sizeof *cells);
@@ -85,7 +93,7 @@ static int load(struct machine *m, uint32_t *cells, size_t size, const uint8_t *
             return 0;
         uint32_t length = little(job + at, 4), now = little(job + at + 4, 2);
         const uint8_t *payload = job + at + 6;
-        if (now < kind || now < 1 || now > 4 || length > bytes - at - 6)
+        if (rank_of(now) == 0 || rank_of(now) < rank || length > bytes - at - 6)
             return 0;
         if (now == 1) {
             uint32_t base = length < 6 ? 0 : little(payload, 2), count = (length - 2) / 4;
@@ -100,17 +108,22 @@ static int load(struct machine *m, uint32_t *cells, size_t size, const uint8_t *
             m->regs[payload[0]] = little(payload + 1, 4);
             least = payload[0] + 1u;
         } else if (now == 3) {
-            if (length != 5 || kind == 3)
+            if (length != 5 || rank == rank_of(3))
                 return 0;
             m->flags = little(payload, 2);
             m->mask = little(payload + 2, 2);
             m->mode = payload[4];
             if (m->flags > 511 || m->mask > 511 || m->mode > 3)
                 return 0;
+        } else if (now == 5) {
+            if (length != 20 || rank == rank_of(5))
+                return 0;
+            for (int i = 0; i < 5; i++)
+                m->words[i] = little(payload + 4 * i, 4);
         } else {
             return length == 0 && at + 6 == bytes;
         }
-        kind = now;
+        rank = rank_of(now);
         at += 6 + length;
     }
 }

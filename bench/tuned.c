@@ -237,18 +237,18 @@ static inline uint32_t illegal(struct step t, uint32_t *told)
 }
 
 /* What a load pointer that neither faults nor is illegal reads; 0 reads nothing. */
-static uint32_t loaded(const uint32_t *cells, uint32_t settings, uint32_t p)
+static uint32_t loaded(const uint32_t *cells, const uint32_t *words, uint32_t settings, uint32_t p)
 {
-    switch (p) {
-    case FIRST_SPECIAL: return settings & 511;
-    case MASK_ADDRESS: return settings >> 9 & 511;
-    case MODE_ADDRESS: return settings >> 18;
-    default: return cells[p];
-    }
+    if (p < FIRST_SPECIAL)
+        return cells[p];
+    if (p >= FIRST_WORD)
+        return words[p - FIRST_WORD];
+    return p == FIRST_SPECIAL ? settings & 511 : p == MASK_ADDRESS ? settings >> 9 & 511 : settings >> 18;
 }
 
 /* LDST by any pointers, once PC has advanced. */
-__attribute__((noinline)) static struct after transfer(uint32_t *entry, uint32_t *regs, uint32_t *cells, size_t size, uint32_t pc, uint32_t settings)
+__attribute__((noinline)) static struct after transfer(uint32_t *entry, uint32_t *regs, uint32_t *cells, size_t size, uint32_t pc, uint32_t settings,
+                                                       const uint32_t *words)
 {
     struct step t = {entry, regs, (const uint8_t *)(cells + pc), pc, settings};
     uint32_t n = t.cell[2], rn = regs[n], x = regs[t.cell[1]], y = regs[t.cell[0]];
@@ -257,11 +257,11 @@ __attribute__((noinline)) static struct after transfer(uint32_t *entry, uint32_t
         after.told = TOLD_FAULT;
         return after;
     }
-    if (y > MODE_ADDRESS || illegal_store(x, rn)) {
+    if (illegal_load(y) || illegal_store(x, rn)) {
         after.settings = illegal(t, &after.told);
         return after;
     }
-    uint32_t value = loaded(cells, settings, y);
+    uint32_t value = loaded(cells, words, settings, y);
     enter(t, y ? n : 0, y == 0 ? 0 : n == PC ? pc : rn, 0, 0, 0, y != 0);
     if (x == MASK_ADDRESS) {
         after.settings = (settings & ~(511u << 9)) | rn << 9;
@@ -279,7 +279,7 @@ __attribute__((noinline)) static struct after transfer(uint32_t *entry, uint32_t
 }
 
 /* LDST: a load or a store of memory alone is done here, the rest by `transfer`. */
-static inline uint32_t ldst(struct step t, uint32_t *told, uint32_t *cells, size_t size)
+static inline uint32_t ldst(struct step t, uint32_t *told, uint32_t *cells, size_t size, const uint32_t *words)
 {
     uint32_t n = t.cell[2], old = t.regs[n];
     advance(t);
@@ -294,17 +294,17 @@ static inline uint32_t ldst(struct step t, uint32_t *told, uint32_t *cells, size
         cells[x] = t.regs[n];
         return t.settings;
     }
-    struct after after = transfer(t.entry, t.regs, cells, size, t.pc, t.settings);
+    struct after after = transfer(t.entry, t.regs, cells, size, t.pc, t.settings, words);
     *told = after.told;
     return after.settings;
 }
 
 /* One step, but for what its fetch can refuse. */
-static inline uint32_t execute(struct step t, uint32_t *told, uint32_t *cells, size_t size)
+static inline uint32_t execute(struct step t, uint32_t *told, uint32_t *cells, size_t size, const uint32_t *words)
 {
     switch (t.cell[3]) {
     case 0: return cpswp(t);
-    case 1: return ldst(t, told, cells, size);
+    case 1: return ldst(t, told, cells, size, words);
     case 3: return ldli(t, immediate(t));
     case 4: return ldui(t, immediate(t));
     case 5: return ldliz(t, immediate(t));
@@ -420,7 +420,7 @@ static struct ran run(struct machine *m, uint32_t *cells, size_t size, uint32_t 
         if (t.pc >= size)
             break;
         t.cell = (const uint8_t *)(cells + t.pc);
-        t.settings = execute(t, &told, cells, size);
+        t.settings = execute(t, &told, cells, size, m->words);
         if (told) {
             if (told >= TOLD_INTERRUPT || (told & t.settings >> 9))
                 break;

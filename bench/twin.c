@@ -17,6 +17,14 @@ static void enter(uint32_t *entry, uint32_t ab, uint32_t a, uint32_t b, uint32_t
 /* A register's value before the step, once PC has advanced. */
 static uint32_t old(const uint32_t *regs, uint32_t i, uint32_t pc) { return i == PC ? pc : regs[i]; }
 
+/* What a load above memory reads: the settings or a word. */
+static uint32_t special(const struct machine *m, uint32_t p)
+{
+    if (p >= FIRST_WORD)
+        return m->words[p - FIRST_WORD];
+    return p == FIRST_SPECIAL ? m->flags : p == MASK_ADDRESS ? m->mask : m->mode;
+}
+
 /* One step. Answers DONE if the run goes on. PC advances first, so that R255 reads as PC+1; a refused step takes that back. */
 static inline enum stop step(struct machine *m, uint32_t *cells, size_t size, uint32_t *journal, uint32_t capacity, struct ran *ran)
 {
@@ -56,9 +64,9 @@ static inline enum stop step(struct machine *m, uint32_t *cells, size_t size, ui
     case 1:
         if (faults(y, size) || faults(x, size))
             goto fault;
-        if (y > MODE_ADDRESS || illegal_store(x, rn))
+        if (illegal_load(y) || illegal_store(x, rn))
             goto illegal;
-        value = y < FIRST_SPECIAL ? cells[y] : y == FIRST_SPECIAL ? m->flags : y == MASK_ADDRESS ? m->mask : m->mode;
+        value = y < FIRST_SPECIAL ? cells[y] : special(m, y);
         enter(entry, y ? n : 0, y ? old(regs, n, pc) : 0, 0, 0, 0, y != 0);
         if (x == MASK_ADDRESS) {
             m->mask = rn;

@@ -160,7 +160,9 @@ impl Runner {
                 self.machine.registers[n as usize] = rm;
             }
             1 => {
-                if illegal_transfer(rl, rm, rn) {
+                let illegal = illegal_load(rl) || illegal_store(rm, rn);
+                self.transfers.insert((rl, rm, !illegal));
+                if illegal {
                     written.write(ILLEGAL, true);
                 } else {
                     let loaded = match rl {
@@ -168,6 +170,7 @@ impl Runner {
                         FLAGS_CELL => Some(before.flags),
                         MASK_CELL => Some(before.mask),
                         MODE_CELL => Some(before.mode),
+                        FIRST_WORD..=LAST_WORD => Some(before.words[(rl - FIRST_WORD) as usize]),
                         address => Some(self.cells[address as usize]),
                     };
                     match rm {
@@ -264,9 +267,13 @@ impl Runner {
     }
 }
 
-fn illegal_transfer(load: u32, store: u32, value: u32) -> bool {
-    load > MODE_CELL
-        || store > MODE_CELL
+fn illegal_load(load: u32) -> bool {
+    load > MODE_CELL && !(FIRST_WORD..=LAST_WORD).contains(&load)
+}
+
+/// Of what is above memory only the mask and the mode can be written.
+fn illegal_store(store: u32, value: u32) -> bool {
+    store > MODE_CELL
         || store == FLAGS_CELL
         || store == MASK_CELL && value > HIGHEST_FLAGS
         || store == MODE_CELL && value > HIGHEST_MODE

@@ -11,6 +11,7 @@ use crate::generate_lines;
 use crate::generate_profile;
 use crate::generate_profile_stops;
 use crate::generate_stops;
+use crate::generate_words;
 use crate::random::Random;
 
 pub fn trials(seed: u64, count: usize) -> Vec<u8> {
@@ -24,6 +25,7 @@ pub fn trials(seed: u64, count: usize) -> Vec<u8> {
     generate_checks::edges(&mut random, &mut trials);
     generate_profile::edges(&mut random, &mut trials);
     generate_profile_stops::edges(&mut random, &mut trials);
+    generate_words::edges(&mut random, &mut trials);
     while !trials.is_full() {
         match random.below(100) {
             0..=24 => generate_lines::random(&mut random, &mut trials),

@@ -17,13 +17,14 @@ pub const EDGE: u8 = 11;
 const NOTHING: u8 = 12;
 
 pub fn random(random: &mut Random, trials: &mut Trials) {
-    let setup = match random.below(100) {
+    let mut setup = match random.below(100) {
         0..=54 => mixture(random),
         55..=64 => changes_itself(random),
         65..=72 => fills_journal(random),
         73..=87 => anything(random),
         _ => entries(random),
     };
+    setup.words = random.words();
     setup.add_to(trials);
 }
 
@@ -78,7 +79,7 @@ fn pointer(random: &mut Random) -> u8 {
 fn pointers(setup: &mut Setup, random: &mut Random) {
     let m = setup.m;
     let inside = if m > 1 { 1 + random.below(m.min(30) as u64 - 1) as u32 } else { 0 };
-    let special = 0xFFFF_0000 + random.pick(&[0, 1, 1, 2, 2, 3, 0xFFFF]);
+    let special = random.special();
     let edge = random.pick(&[m.saturating_sub(1), m.saturating_sub(1), 1, m, 0xFFFE_FFFF]);
     setup.registers.extend([(POINTER, inside), (SPECIAL, special), (EDGE, edge)]);
 }

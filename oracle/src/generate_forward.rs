@@ -54,6 +54,7 @@ pub fn random(random: &mut Random, trials: &mut Trials) {
     let m = length + random.pick(&[0, 0, 1, 2, 10, 10, 10, 30, 16_364]);
     let words = 8 * random.pick(&[1, 4, 20, 60, 60, 60, 60, 60]) + random.below(8) as u32;
     let mut setup = Setup::new(m, words);
+    setup.words = random.words();
     for register in 0..POINTER {
         if random.chance(75) {
             setup.registers.push((register, random.word()));
@@ -81,7 +82,7 @@ fn pointers(setup: &mut Setup, length: u32, random: &mut Random) {
     let room = (m - length).min(20);
     let behind = if room > 0 { length + random.below(room as u64) as u32 } else { 0 };
     let within = random.below(length as u64) as u32;
-    let special = 0xFFFF_0000 + random.pick(&[0, 1, 1, 2, 2, 3]);
+    let special = random.special();
     let edge = random.pick(&[0, 1, length - 1, length, m - 1, m]);
     let pointer = if random.chance(85) { behind } else { within };
     setup.registers.extend([(POINTER, pointer), (SPECIAL, special), (EDGE, edge)]);

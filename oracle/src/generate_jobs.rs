@@ -3,15 +3,15 @@
 use crate::cell::{with_immediate, with_registers};
 use crate::file::Trials;
 use crate::generate_calls::instruction;
-use crate::job::{self, record};
-use crate::machine::Machine;
+use crate::job::{self, record, words_record};
+use crate::machine::{Machine, Words};
 use crate::random::Random;
 use crate::setup::Setup;
 use crate::trial::{DESCRIBED, LOAD, MOST_SAVE_ROOM, RUNJOB};
 
 const RUNJOB_CELLS: u32 = 4_096;
 
-fn cells(base: u32, cells: &[u32]) -> Vec<u8> {
+pub fn cells(base: u32, cells: &[u32]) -> Vec<u8> {
     let mut payload = (base as u16).to_le_bytes().to_vec();
     for cell in cells {
         payload.extend(cell.to_le_bytes());
@@ -19,25 +19,25 @@ fn cells(base: u32, cells: &[u32]) -> Vec<u8> {
     record(1, &payload)
 }
 
-fn register(number: u8, value: u32) -> Vec<u8> {
+pub fn register(number: u8, value: u32) -> Vec<u8> {
     let mut payload = vec![number];
     payload.extend(value.to_le_bytes());
     record(2, &payload)
 }
 
-fn settings(flags: u16, mask: u16, mode: u8) -> Vec<u8> {
+pub fn settings(flags: u16, mask: u16, mode: u8) -> Vec<u8> {
     let mut payload = flags.to_le_bytes().to_vec();
     payload.extend(mask.to_le_bytes());
     payload.push(mode);
     record(3, &payload)
 }
 
-fn end() -> Vec<u8> {
+pub fn end() -> Vec<u8> {
     record(4, &[])
 }
 
 /// A record whose head may tell a length that is not the payload's.
-fn odd(length: u32, kind: u16, payload: usize) -> Vec<u8> {
+pub fn odd(length: u32, kind: u16, payload: usize) -> Vec<u8> {
     let mut bytes = length.to_le_bytes().to_vec();
     bytes.extend(kind.to_le_bytes());
     bytes.resize(bytes.len() + payload, 0);
@@ -47,20 +47,22 @@ fn odd(length: u32, kind: u16, payload: usize) -> Vec<u8> {
 pub fn edges(random: &mut Random, trials: &mut Trials) {
     // No cells, too many cells, and the least and the most that are allowed.
     for m in [0, 1, 2, 16_383, 16_384, 16_385, 16_500] {
-        load(m, 70_000, &end(), trials);
-        load(m, 70_000, b"", trials);
+        load(m, 70_000, random.words(), &end(), trials);
+        load(m, 70_000, random.words(), b"", trials);
     }
     // The refused load leaves full cells behind: the longest record that there is.
-    for room in [65_549, 65_550, 65_551] {
-        load(16_384, room, b"", trials);
+    for room in [65_575, 65_576, 65_577] {
+        load(16_384, room, random.words(), b"", trials);
     }
-    for room in 4..9 {
-        load(3, room, &end(), trials);
+    for room in 30..35 {
+        load(3, room, random.words(), &end(), trials);
     }
     for m in [1, 2, 5, 4_096, 16_384] {
         for over in [0, 1] {
-            load(m, 70_000, &[cells(m - 1 + over, &[7]), end()].concat(), trials);
-            load(m, 70_000, &[cells(0, &[7]), cells(m - 1, &vec![9; 1 + over as usize]), end()].concat(), trials);
+            let last = [cells(m - 1 + over, &[7]), end()].concat();
+            load(m, 70_000, random.words(), &last, trials);
+            let both = [cells(0, &[7]), cells(m - 1, &vec![9; 1 + over as usize]), end()].concat();
+            load(m, 70_000, random.words(), &both, trials);
         }
     }
     for job in odd_jobs().into_iter().chain(running_jobs()) {
@@ -68,9 +70,10 @@ pub fn edges(random: &mut Random, trials: &mut Trials) {
         runjob(&job, trials);
     }
     // Every place at which a job can be cut.
-    let whole = [cells(1, &[5, 6]), register(3, 4), settings(1, 2, 3), end()].concat();
+    let whole =
+        [cells(1, &[5, 6]), register(3, 4), settings(1, 2, 3), words_record([6, 7, 8, 9, 10]), end()].concat();
     for length in 0..whole.len() {
-        load(8, 100, &whole[..length], trials);
+        load(8, 100, random.words(), &whole[..length], trials);
     }
     big(trials);
     longest(random, trials);
@@ -108,7 +111,7 @@ fn saves(trials: &mut Trials) {
         [[1, 0, 1, 0, 1], [0, 1, 0, 1, 0], [1, 1, 0, 1, 1], [1, 1, 1, 1, 1], [0, 0, 0, 0, 0], [0, 0, 0, 0, 9]]
     {
         for m in 1..6 {
-            let mut setup = Setup::new(m, 60);
+            let mut setup = Setup::new(m, 90);
             setup.place(0, &content);
             setup.add_saving_to(trials);
         }
@@ -122,6 +125,7 @@ fn saves(trials: &mut Trials) {
 fn random_save(random: &mut Random, trials: &mut Trials) {
     let m = random.pick(&[1, 2, 3, 8, 40, 300, 16_384, 16_384, 16_385]);
     let mut setup = Setup::new(m, 0);
+    setup.words = random.words();
     let odd = random.chance(20);
     setup.flags = if odd { random.word() } else { random.pick(&[0, 0, 1, 256, 511]) };
     setup.mask = if random.chance(50) { 0 } else { random.pick(&[1, 4, 128, 511, 512]) };
@@ -140,7 +144,7 @@ fn random_save(random: &mut Random, trials: &mut Trials) {
     (machine.flags, machine.mask, machine.mode) = (setup.flags, setup.mask, setup.mode);
     setup.registers.iter().for_each(|(register, value)| machine.registers[*register as usize] = *value);
     setup.cells.iter().for_each(|(place, value)| content[*place as usize] = *value);
-    setup.words = about(job::saved(&machine, &content).len() as u32, random);
+    setup.room = about(job::saved(&machine, &content).len() as u32, random);
     setup.add_saving_to(trials);
 }
 
@@ -200,9 +204,9 @@ fn odd_jobs() -> Vec<Vec<u8>> {
     ] {
         add(&[settings(flags, mask, mode), end()]);
     }
-    let parts = [cells(2, &[5]), register(1, 0), settings(1, 0, 3)];
-    for first in 0..3 {
-        for second in 0..3 {
+    let parts = [cells(2, &[5]), register(1, 0), settings(1, 0, 3), words_record([1, 2, 3, 4, 5])];
+    for first in 0..4 {
+        for second in 0..4 {
             add(&[parts[first].clone(), parts[second].clone(), end()]);
             add(&[parts[first].clone(), parts[second].clone()]);
             add(&[parts[first].clone(), parts[second][..7].to_vec()]);
@@ -252,7 +256,7 @@ fn big(trials: &mut Trials) {
 
 /// Jobs whose first record is the longest that may be, or about as long.
 fn longest(random: &mut Random, trials: &mut Trials) {
-    for room in [65_549, 65_550, 65_551] {
+    for room in [65_575, 65_576, 65_577] {
         long(16_384, room, (65_538, 0), 65_536, &end(), random, trials);
     }
     // Too few cells, too many, and a base that is too high or just not.
@@ -268,16 +272,18 @@ fn longest(random: &mut Random, trials: &mut Trials) {
         long(16_384, 70_000, (65_538, 0), middle, b"", random, trials);
     }
     let zeros = [odd(65_538, 1, 0), vec![0, 0]].concat();
-    describe(16_384, 70_000, &zeros, 65_536, (0, 0), &end(), trials);
+    describe((16_384, 70_000), random.words(), &zeros, 65_536, (0, 0), &end(), trials);
 }
 
 /// What follows so long a record: if refused, then with its offset.
 fn behind_longest(random: &mut Random, trials: &mut Trials) {
     let tails = [
         [register(3, 4), settings(1, 2, 3), end()].concat(),
+        [register(3, 4), settings(1, 2, 3), words_record([5, 4, 3, 2, 1]), end()].concat(),
         vec![],
         vec![0; 5],
         odd(0, 5, 0),
+        odd(0, 6, 0),
         odd(4, 2, 4),
         register(3, 4)[..10].to_vec(),
         cells(0, &[1]),
@@ -319,7 +325,7 @@ pub fn random(random: &mut Random, trials: &mut Trials) {
     }
 }
 
-/// A program, perhaps more cells, registers and settings: a job without a fault.
+/// A program, perhaps more cells, registers, settings and words: a job without a fault.
 fn valid(m: u32, random: &mut Random) -> Vec<Vec<u8>> {
     let mut records = Vec::new();
     let mut base = 0;
@@ -348,6 +354,9 @@ fn valid(m: u32, random: &mut Random) -> Vec<Vec<u8>> {
         let mask = random.pick(&[0, 0, 4, 128, 16, 511]);
         records.push(settings(flags, mask, random.below(4) as u8));
     }
+    if random.chance(50) {
+        records.push(words_record(random.words()));
+    }
     records.push(end());
     records
 }
@@ -358,9 +367,9 @@ fn damage_records(records: &mut Vec<Vec<u8>>, m: u32, random: &mut Random) {
     }
     let at = random.below(records.len() as u64) as usize;
     let other = random.below(records.len() as u64) as usize;
-    match random.below(9) {
+    match random.below(10) {
         0 => {
-            let length = random.pick(&[0, 1, 4, 5, 6, 7, 10, 65_538, 65_542, 0xFFFF_FFFF, 0x1_0005]);
+            let length = random.pick(&[0, 1, 4, 5, 6, 7, 10, 19, 20, 24, 65_538, 65_542, 0xFFFF_FFFF, 0x1_0005]);
             records[at][..4].copy_from_slice(&u32::to_le_bytes(length));
         }
         1 => records[at][4] = random.pick(&[0, 1, 2, 3, 4, 5, 6, 255]),
@@ -369,7 +378,8 @@ fn damage_records(records: &mut Vec<Vec<u8>>, m: u32, random: &mut Random) {
         4 => records.insert(other, records[at].clone()),
         5 => drop(records.remove(at)),
         6 => records.insert(at, settings(random.word() as u16, random.word() as u16, random.word() as u8)),
-        7 => {
+        7 => records.insert(at, words_record(random.words())),
+        8 => {
             let base = random.pick(&[m.saturating_sub(2), m.saturating_sub(1), m, m + 1, 0, 65_535]);
             records.insert(at, cells(base, &[3, 4]));
         }
@@ -391,13 +401,17 @@ fn damage_bytes(job: &mut Vec<u8>, random: &mut Random) {
     }
 }
 
-fn runjob(job: &[u8], trials: &mut Trials) {
+pub fn runjob(job: &[u8], trials: &mut Trials) {
     trials.add(RUNJOB, job);
 }
 
-fn load(m: u32, room: u32, job: &[u8], trials: &mut Trials) {
-    let mut payload = m.to_le_bytes().to_vec();
-    payload.extend(room.to_le_bytes());
+/// How payloads of loads begin: M, the room's length and the host's words.
+fn host_words((m, room): (u32, u32), host: Words) -> Vec<u8> {
+    [m, room].into_iter().chain(host).flat_map(u32::to_le_bytes).collect()
+}
+
+pub fn load(m: u32, room: u32, host: Words, job: &[u8], trials: &mut Trials) {
+    let mut payload = host_words((m, room), host);
     payload.extend(job);
     trials.add(LOAD, &payload);
 }
@@ -415,23 +429,21 @@ fn long(
 ) {
     let head = [odd(length, 1, 0), base.to_le_bytes().to_vec()].concat();
     let seed = (random.bits() as u16, 256 + random.below(60_000) as u16);
-    describe(m, room, &head, bytes, seed, tail, trials);
+    describe((m, room), random.words(), &head, bytes, seed, tail, trials);
 }
 
 /// A job of a head, a middle of as many bytes as is told, made from a seed and a step, and a tail.
 fn describe(
-    m: u32,
-    room: u32,
+    sizes: (u32, u32),
+    host: Words,
     head: &[u8],
     middle: u32,
     (seed, step): (u16, u16),
     tail: &[u8],
     trials: &mut Trials,
 ) {
-    let mut payload = Vec::new();
-    for number in [m, room, middle] {
-        payload.extend(number.to_le_bytes());
-    }
+    let mut payload = host_words(sizes, host);
+    payload.extend(middle.to_le_bytes());
     for number in [seed, step, head.len() as u16] {
         payload.extend(number.to_le_bytes());
     }
@@ -451,9 +463,10 @@ fn about(length: u32, random: &mut Random) -> u32 {
     room.min(MOST_SAVE_ROOM as u32)
 }
 
-fn load_any_room(m: u32, job: &[u8], random: &mut Random, trials: &mut Trials) {
+pub fn load_any_room(m: u32, job: &[u8], random: &mut Random, trials: &mut Trials) {
+    let host = random.words();
     let mut content = vec![1; m as usize];
-    let machine = job::load(job, &mut content).unwrap_or(Machine::fresh());
+    let machine = job::load(job, host, &mut content).unwrap_or(Machine::fresh());
     let length = job::saved(&machine, &content).len() as u32;
-    load(m, about(length, random), job, trials);
+    load(m, about(length, random), host, job, trials);
 }

@@ -1,8 +1,12 @@
 //! Job files: loading, saving, and the text of `runjob`.
 
-use crate::machine::{cells_fit, Answer, Machine, Runner, ENTRY_WORDS, HIGHEST_FLAGS, HIGHEST_MODE, PC};
+use crate::machine::{
+    cells_fit, Answer, Machine, Runner, Words, ENTRY_WORDS, HIGHEST_FLAGS, HIGHEST_MODE, NO_WORDS, PC,
+};
 
 const HEAD: usize = 6;
+/// The kinds of records in the order that they keep.
+const ORDER: [u32; 5] = [1, 2, 3, 5, 4];
 const MOST_INPUT: usize = 32_768;
 /// The cells of `runjob` and of `check-rule`.
 pub const PROGRAM_CELLS: usize = 4_096;
@@ -23,19 +27,20 @@ fn length_fits(kind: u32, length: u32) -> bool {
     match kind {
         1 => (6..=65_538).contains(&length) && length % 4 == 2,
         2 | 3 => length == 5,
+        5 => length == 20,
         _ => length == 0,
     }
 }
 
-/// The machine the job describes. The cells are written only when the whole job is known to be
-/// good, so the new content is made beside them.
-pub fn load(job: &[u8], cells: &mut [u32]) -> Result<Machine, Refused> {
+/// The machine the job describes; the host's words are its words unless the job has others. The cells are
+/// written only when the whole job is known to be good, so the new content is made beside them.
+pub fn load(job: &[u8], host: Words, cells: &mut [u32]) -> Result<Machine, Refused> {
     if !cells_fit(cells.len()) {
         return Err((12, 0));
     }
-    let mut machine = Machine::fresh();
+    let mut machine = Machine { words: host, ..Machine::fresh() };
     let mut content = vec![0; cells.len()];
-    let mut last_kind = 0;
+    let mut last_rank = 0;
     let mut next_base = 0;
     let mut next_register = 0;
     let mut offset = 0;
@@ -47,9 +52,9 @@ pub fn load(job: &[u8], cells: &mut [u32]) -> Result<Machine, Refused> {
         }
         let length = u32_at(left, 0);
         let kind = u16_at(left, 4);
-        if !(1..=4).contains(&kind) {
+        let Some(rank) = ORDER.iter().position(|known| *known == kind) else {
             return refuse(42);
-        }
+        };
         if !length_fits(kind, length) {
             return refuse(43);
         }
@@ -58,7 +63,8 @@ pub fn load(job: &[u8], cells: &mut [u32]) -> Result<Machine, Refused> {
             return refuse(44);
         }
         let payload = &left[HEAD..HEAD + length];
-        if kind < last_kind {
+        // Records of kinds 3 and 5 have none of their kind behind them.
+        if rank < last_rank || rank == last_rank && (kind == 3 || kind == 5) {
             return refuse(46);
         }
         match kind {
@@ -85,9 +91,6 @@ pub fn load(job: &[u8], cells: &mut [u32]) -> Result<Machine, Refused> {
                 next_register = register + 1;
             }
             3 => {
-                if last_kind == 3 {
-                    return refuse(46);
-                }
                 machine.flags = u16_at(payload, 0);
                 machine.mask = u16_at(payload, 2);
                 machine.mode = payload[4] as u32;
@@ -95,6 +98,7 @@ pub fn load(job: &[u8], cells: &mut [u32]) -> Result<Machine, Refused> {
                     return refuse(10);
                 }
             }
+            5 => machine.words = std::array::from_fn(|word| u32_at(payload, 4 * word)),
             _ => {
                 let end = offset + HEAD;
                 if end < job.len() {
@@ -104,7 +108,7 @@ pub fn load(job: &[u8], cells: &mut [u32]) -> Result<Machine, Refused> {
                 return Ok(machine);
             }
         }
-        last_kind = kind;
+        last_rank = rank;
         offset += HEAD + length;
     }
 }
@@ -116,9 +120,9 @@ pub fn record(kind: u16, payload: &[u8]) -> Vec<u8> {
     bytes
 }
 
-/// The job that `save` writes for this machine and these cells.
-pub fn saved(machine: &Machine, cells: &[u32]) -> Vec<u8> {
-    let mut job = Vec::new();
+/// A record for each maximal run of cells that are not 0.
+pub fn cell_records(cells: &[u32]) -> Vec<u8> {
+    let mut records = Vec::new();
     let mut address = 0;
     while address < cells.len() {
         if cells[address] == 0 {
@@ -130,8 +134,18 @@ pub fn saved(machine: &Machine, cells: &[u32]) -> Vec<u8> {
             payload.extend(cells[address].to_le_bytes());
             address += 1;
         }
-        job.extend(record(1, &payload));
+        records.extend(record(1, &payload));
     }
+    records
+}
+
+pub fn words_record(words: Words) -> Vec<u8> {
+    record(5, &words.map(u32::to_le_bytes).concat())
+}
+
+/// The job that `save` writes for this machine and these cells.
+pub fn saved(machine: &Machine, cells: &[u32]) -> Vec<u8> {
+    let mut job = cell_records(cells);
     for (register, value) in machine.registers.iter().enumerate() {
         if *value != 0 {
             let mut payload = vec![register as u8];
@@ -145,6 +159,7 @@ pub fn saved(machine: &Machine, cells: &[u32]) -> Vec<u8> {
         payload.push(machine.mode as u8);
         job.extend(record(3, &payload));
     }
+    job.extend(words_record(machine.words));
     job.extend(record(4, &[]));
     job
 }
@@ -165,12 +180,12 @@ pub fn save(machine: &Machine, cells: &[u32], room: &mut [u8]) -> Result<usize, 
     Ok(job.len())
 }
 
-/// Loads what a program reads from its standard input.
+/// Loads what a program reads from its standard input; such a host gives zeros.
 pub fn load_input(input: &[u8], cells: &mut [u32]) -> Result<Machine, Refused> {
     if input.len() > MOST_INPUT {
         return Err((50, MOST_INPUT));
     }
-    load(input, cells)
+    load(input, NO_WORDS, cells)
 }
 
 pub fn refused_text((number, offset): Refused) -> String {

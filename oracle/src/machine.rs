@@ -9,6 +9,12 @@ pub const MOST_CELLS: usize = 16_384;
 pub const MOST_ENTRIES: usize = 65_536;
 pub const ENTRY_WORDS: usize = 8;
 
+/// The words that the host gives at load, which LDST reads from FIRST_WORD on.
+pub type Words = [u32; 5];
+pub const FIRST_WORD: u32 = 0xFFFF_0300;
+pub const LAST_WORD: u32 = 0xFFFF_0304;
+pub const NO_WORDS: Words = [0; 5];
+
 pub const CARRY: u32 = 1;
 pub const BORROW: u32 = 2;
 pub const OVERFLOW: u32 = 4;
@@ -33,11 +39,13 @@ pub struct Machine {
     pub mask: u32,
     pub mode: u32,
     pub depth: u32,
+    /// No call writes them.
+    pub words: Words,
 }
 
 impl Machine {
     pub fn fresh() -> Machine {
-        Machine { registers: [0; 256], flags: 0, mask: 0, mode: 3, depth: 0 }
+        Machine { registers: [0; 256], flags: 0, mask: 0, mode: 3, depth: 0, words: NO_WORDS }
     }
 
     pub fn settings_fit(&self) -> bool {
@@ -76,6 +84,8 @@ pub struct Runner {
     pub widened: [BTreeSet<u16>; 3],
     /// Each BZ that was done: its cell, its target, and whether it was taken; nothing depends on them.
     pub branches: BTreeSet<(u32, i64, bool)>,
+    /// Each LDST that was done: its load and store pointers, and whether it was legal; nothing depends on them.
+    pub transfers: BTreeSet<(u32, u32, bool)>,
 }
 
 impl Runner {
@@ -87,6 +97,7 @@ impl Runner {
             executed: [0; 256],
             widened: Default::default(),
             branches: BTreeSet::new(),
+            transfers: BTreeSet::new(),
         }
     }
 

@@ -15,6 +15,7 @@ mod generate_lines;
 mod generate_profile;
 mod generate_profile_stops;
 mod generate_stops;
+mod generate_words;
 mod half;
 mod job;
 mod line;
@@ -106,12 +107,12 @@ fn check_rule(length: Option<&str>) -> Result<(), String> {
     output(check_rule::text(length, &input()?).as_bytes())
 }
 
-/// The job whose cells from 0 on are those of the printed lines.
+/// The job whose cells from 0 on are those of the printed lines. It has no words, so that the host's stay.
 fn assemble() -> Result<(), String> {
     let text = input()?;
     let lines = text.split_inclusive(|byte| *byte == b'\n').enumerate();
     let cells: Result<Vec<u32>, String> = lines
         .map(|(number, line)| line::read(line).map_err(|_| format!("line {} is no cell's", number + 1)))
         .collect();
-    output(&job::saved(&machine::Machine::fresh(), &cells?))
+    output(&[job::cell_records(&cells?), job::record(4, &[])].concat())
 }

@@ -1,10 +1,12 @@
 //! Seeded numbers for the generator, leaning towards those where rules change.
 
+use crate::machine::{Words, NO_WORDS};
+
 pub struct Random {
     state: u64,
 }
 
-const WORDS: [u32; 26] = [
+const WORDS: [u32; 28] = [
     0,
     1,
     2,
@@ -27,6 +29,8 @@ const WORDS: [u32; 26] = [
     0xFFFF_0000,
     0xFFFF_0001,
     0xFFFF_0002,
+    0xFFFF_0300,
+    0xFFFF_0304,
     0xFFFF_7FFF,
     0xFFFF_8000,
     0xFFFF_FFFE,
@@ -72,6 +76,19 @@ impl Random {
             7 => (self.below(16) as u32).wrapping_neg(),
             _ => self.bits(),
         }
+    }
+
+    /// The words that a host gives; now and then they are zeros.
+    pub fn words(&mut self) -> Words {
+        if self.chance(20) {
+            return NO_WORDS;
+        }
+        NO_WORDS.map(|_| self.word())
+    }
+
+    /// An address above memory: the settings, the host's words, and what lies beside them.
+    pub fn special(&mut self) -> u32 {
+        0xFFFF_0000 + self.pick(&[0, 1, 1, 2, 2, 3, 0x2FF, 0x300, 0x301, 0x302, 0x303, 0x304, 0x305, 0xFFFF])
     }
 
     pub fn immediate(&mut self) -> u16 {

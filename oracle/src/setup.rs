@@ -1,21 +1,25 @@
 //! A trial of calls or of a save under construction: the machine, cells and journal before, and the calls; or the room's length.
 
 use crate::file::Trials;
-use crate::machine::{ENTRY_WORDS, PC};
+use crate::machine::{Words, ENTRY_WORDS, PC};
 use crate::random::Random;
 use crate::trial::{CALLS, PROFILE, SAVE};
 
 /// More steps than any call can do.
 pub const LONG: u64 = 1 << 40;
 
+/// The words of a machine unless a trial has others. No two are the same, so that each call shows if they stay.
+const GIVEN: Words = [2_025, 11, 16, 0x8000_0000, 0xFFFF_FFFF];
+
 pub struct Setup {
     pub m: u32,
     /// The journal's words, or the room's bytes.
-    pub words: u32,
+    pub room: u32,
     pub flags: u32,
     pub mask: u32,
     pub mode: u32,
     pub depth: u32,
+    pub words: Words,
     pub registers: Vec<(u8, u32)>,
     pub cells: Vec<(u32, u32)>,
     pub journal: Vec<(u32, u32)>,
@@ -35,15 +39,16 @@ pub fn places(list: &[(u32, u32)]) -> Vec<u8> {
 }
 
 impl Setup {
-    /// A fresh machine before its first call.
-    pub fn new(m: u32, words: u32) -> Setup {
+    /// A machine before its first call, fresh but for the words that the host gave.
+    pub fn new(m: u32, room: u32) -> Setup {
         Setup {
             m,
-            words,
+            room,
             flags: 0,
             mask: 0,
             mode: 3,
             depth: 0,
+            words: GIVEN,
             registers: Vec::new(),
             cells: Vec::new(),
             journal: Vec::new(),
@@ -72,7 +77,7 @@ impl Setup {
     /// Leaves something in the words that steps will write, and in those that they will not.
     pub fn litter(&mut self, random: &mut Random) {
         let from = self.depth.saturating_mul(ENTRY_WORDS as u32);
-        for word in from..self.words.min(from.saturating_add(20)) {
+        for word in from..self.room.min(from.saturating_add(20)) {
             self.journal.push((word, random.bits()));
         }
     }
@@ -80,7 +85,8 @@ impl Setup {
     /// The machine and its cells, as payloads begin.
     fn state(&self) -> Vec<u8> {
         let mut payload = Vec::new();
-        for word in [self.m, self.words, self.flags, self.mask, self.mode, self.depth] {
+        let numbers = [self.m, self.room, self.flags, self.mask, self.mode, self.depth];
+        for word in numbers.into_iter().chain(self.words) {
             payload.extend(word.to_le_bytes());
         }
         payload.extend((self.registers.len() as u16).to_le_bytes());

@@ -4,7 +4,7 @@ use std::collections::{BTreeMap, BTreeSet};
 
 use crate::cell::opcode_of;
 use crate::execute::branch_target;
-use crate::machine::{Answer, Runner, ENTRY_WORDS, MOST_CELLS, MOST_ENTRIES, PC};
+use crate::machine::{Answer, Runner, Words, ENTRY_WORDS, MOST_CELLS, MOST_ENTRIES, NO_WORDS, PC};
 use crate::profile::Fault;
 
 /// The calls by their kind. `runjob` makes one call of run; its refusals are counted below.
@@ -55,6 +55,33 @@ const LIMITS: [&str; 25] = [
     "step 4 at PC 32766",
     "step 4 at PC 32767",
     "step 4 at PC 32768",
+];
+
+/// What happens to the host's words. A pointer is alone if the other one is 0. Of a job that is refused, the
+/// kind of the record that is refused is told, and that of the record before it.
+const WORDS: [&str; 22] = [
+    "load from FFFF0300 alone",
+    "load from FFFF0301 alone",
+    "load from FFFF0302 alone",
+    "load from FFFF0303 alone",
+    "load from FFFF0304 alone",
+    "illegal load from FFFF02FF alone",
+    "illegal load from FFFF0305 alone",
+    "illegal store to FFFF0300 alone",
+    "illegal store to FFFF0301 alone",
+    "illegal store to FFFF0302 alone",
+    "illegal store to FFFF0303 alone",
+    "illegal store to FFFF0304 alone",
+    "load with kind 5",
+    "load with kind 5 and other words of the host's",
+    "load without kind 5, the host's words stay",
+    "load refused 43 at kind 5",
+    "load refused 46 at kind 5 after 5",
+    "load refused 46 at kind 1 after 5",
+    "load refused 46 at kind 2 after 5",
+    "load refused 46 at kind 3 after 5",
+    "runjob with kind 5",
+    "runjob without kind 5",
 ];
 
 /// Where halves become single floats, in the order of `Runner::widened`.
@@ -171,6 +198,26 @@ impl Tally {
         }
     }
 
+    /// Counts what became of a job's words, by the first line of the answer.
+    pub fn job(&mut self, place: &'static str, job: &[u8], host: Words, text: &str) {
+        let said: Vec<&str> = text.lines().next().unwrap_or("").split(' ').collect();
+        if let ["refused", number, "at", offset] = said[..] {
+            let (before, kind) = kinds_at(job, offset.parse().expect("an offset is a number"));
+            self.limit(format!("{place} refused {number} at kind {kind}"));
+            self.limit(format!("{place} refused {number} at kind {kind} after {before}"));
+            return;
+        }
+        // The record of words stands before the last one, which is empty.
+        let with = job.len() >= 32 && kinds_at(job, job.len() - 6).0 == 5;
+        self.limit(format!("{place} {} kind 5", if with { "with" } else { "without" }));
+        if with && job[job.len() - 26..job.len() - 6] != host.map(u32::to_le_bytes).concat() {
+            self.limit(format!("{place} with kind 5 and other words of the host's"));
+        }
+        if !with && host != NO_WORDS {
+            self.limit(format!("{place} without kind 5, the host's words stay"));
+        }
+    }
+
     fn limit(&mut self, name: String) {
         *self.limits.entry(name).or_insert(0) += 1;
     }
@@ -197,6 +244,15 @@ impl Tally {
             let what = if *taken { "taken" } else { "not taken" };
             self.limit(format!("BZ from {pc} to {target} {what}"));
         }
+        for (load, store, legal) in &runner.transfers {
+            let what = if *legal { "" } else { "illegal " };
+            if *store == 0 {
+                self.limit(format!("{what}load from {load:08X} alone"));
+            }
+            if *load == 0 {
+                self.limit(format!("{what}store to {store:08X} alone"));
+            }
+        }
     }
 
     /// The table, and what is missing from it.
@@ -208,7 +264,8 @@ impl Tally {
         self.calls(&mut text, &mut missing);
         self.checks(&mut text, &mut missing);
         self.refused(&mut text, &mut missing);
-        self.limited(&mut text, &mut missing);
+        self.limited("limit", &LIMITS, &mut text, &mut missing);
+        self.limited("words", &WORDS, &mut text, &mut missing);
         (text, missing)
     }
 
@@ -290,14 +347,25 @@ impl Tally {
         }
     }
 
-    fn limited(&self, text: &mut String, missing: &mut Vec<String>) {
-        *text += "limit count\n";
-        for name in LIMITS {
-            let count = self.limits.get(name).copied().unwrap_or(0);
+    fn limited(&self, title: &str, names: &[&str], text: &mut String, missing: &mut Vec<String>) {
+        *text += &format!("{title} count\n");
+        for name in names {
+            let count = self.limits.get(*name).copied().unwrap_or(0);
             *text += &format!("{name} {count}\n");
             if count == 0 {
                 missing.push(name.to_string());
             }
         }
     }
+}
+
+/// The kind of the record before an offset of a job, and of the record there; 0 where there is none.
+fn kinds_at(job: &[u8], offset: usize) -> (u16, u16) {
+    let kind_at = |at: usize| job.get(at + 4..at + 6).map_or(0, |kind| u16::from_le_bytes([kind[0], kind[1]]));
+    let (mut at, mut before) = (0, 0);
+    while at < offset && at + 6 <= job.len() {
+        before = kind_at(at);
+        at += 6 + u32::from_le_bytes([job[at], job[at + 1], job[at + 2], job[at + 3]]) as usize;
+    }
+    (before, kind_at(offset))
 }

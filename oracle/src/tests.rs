@@ -1,17 +1,19 @@
-//! The small cases of the rules, the printed job, branches, and rules that only go forward.
+//! The small cases of the rules, the printed job, branches, rules that only go forward, and the host's words.
 
 use crate::cell::{decode, encode, with_immediate, with_registers, Decoded, Operands};
 use crate::check_rule;
 use crate::generate_forward::forward_cell;
 use crate::half::ex;
-use crate::job::{load, record, runjob, save};
+use crate::job::{load, record, runjob, save, words_record, Refused};
 use crate::line;
-use crate::machine::{Answer, Machine, Runner, PC};
+use crate::machine::{Answer, Machine, Runner, Words, NO_WORDS, PC};
 use crate::profile::{check, reason, Fault, Reason};
 use crate::random::Random;
 use crate::{generate, table, trial};
 
 const JOB: [u8; 26] = [0x0E, 0, 0, 0, 1, 0, 0, 0, 7, 0, 1, 5, 2, 0, 1, 0x25, 0xFF, 0xFF, 0xFF, 4, 0, 0, 0, 0, 4, 0];
+
+const WORDS: Words = [2_025, 11, 16, 0xFFFF_FFFF, 0x8000_0000];
 
 /// One step at PC 0 of a machine whose registers 1 to 3 are given.
 fn one_step(cell: u32, registers: [u32; 3], flags: u32) -> (Answer, Machine) {
@@ -158,19 +160,31 @@ fn jobs_without_end() {
 
 #[test]
 fn a_saved_job_loads_again() {
-    let mut cells = [9; 40];
-    let machine = load(&JOB, &mut cells).unwrap();
-    let mut room = [0xAA; 30];
-    assert_eq!(save(&machine, &cells, &mut room), Ok(26));
-    assert_eq!((&room[..26], &room[26..]), (&JOB[..], &[0xAA; 4][..]));
-    let mut again = [8; 40];
-    assert_eq!(load(&room[..26], &mut again), Ok(machine.clone()));
-    assert_eq!(again, cells);
-    let mut short = [0xAA; 25];
-    assert_eq!(save(&machine, &cells, &mut short), Err(48));
-    assert_eq!(short, [0xAA; 25]);
+    for words in [NO_WORDS, WORDS] {
+        let mut cells = [9; 40];
+        let machine = load(&JOB, words, &mut cells).unwrap();
+        let mut room = [0xAA; 60];
+        assert_eq!(save(&machine, &cells, &mut room), Ok(52));
+        let job = [&JOB[..20], &words_record(words), &JOB[20..]].concat();
+        assert_eq!((&room[..52], &room[52..]), (&job[..], &[0xAA; 8][..]));
+        for host in [NO_WORDS, WORDS, [1; 5]] {
+            let mut again = [8; 40];
+            assert_eq!(load(&job, host, &mut again), Ok(machine.clone()));
+            assert_eq!(again, cells);
+        }
+    }
+}
+
+#[test]
+fn saves_that_are_refused() {
+    let machine = Machine { words: WORDS, ..Machine::fresh() };
+    let mut room = [0xAA; 32];
+    assert_eq!(save(&machine, &[0; 40], &mut room[..31]), Err(48));
+    assert_eq!(save(&machine, &[], &mut room[..31]), Err(12));
+    assert_eq!(save(&machine, &[0; 16_385], &mut room), Err(12));
     let odd = Machine { mode: 4, ..machine };
-    assert_eq!(save(&odd, &cells, &mut room), Err(10));
+    assert_eq!(save(&odd, &[0; 40], &mut room[..31]), Err(10));
+    assert_eq!(room, [0xAA; 32]);
 }
 
 #[test]
@@ -538,14 +552,129 @@ fn trials_of_rules_that_only_go_forward() {
         let payload = [&[length, 0, 0, 0, 2, 0, 0, 0], &settings[..]].concat();
         assert_eq!(trial::answer(trial::CHECK, &payload, &mut tally).unwrap(), text);
     }
-    let head = [[2, 0, 0, 0], [16, 0, 0, 0], [0; 4], [0; 4], [3, 0, 0, 0], [0; 4]].concat();
+    let head = [&[2, 0, 0, 0, 16, 0, 0, 0], &[0; 8][..], &[3, 0, 0, 0], &[0; 24]].concat();
     let calls = [&[2, 0, 3, 1, 0, 0, 0, 0, 0, 0, 0, 2, 0, 0, 0][..], &[0, 0, 0, 0, 0, 0, 0, 0, 0]].concat();
     let payload = [&head[..], &[0, 0], &settings[..], &[0, 0], &calls[..]].concat();
     let text = trial::answer(trial::CALLS, &payload, &mut tally).unwrap();
     let lines: Vec<&str> = text.lines().collect();
     assert_eq!(lines.len(), 2);
-    assert!(lines[0].starts_with("stop 60 value 0 imm 0 place 1 count 0 pc 0 flags 0 mask 0 mode 3 depth 0 "));
-    assert!(lines[1].starts_with("stop 0 value 0 imm 0 place 0 count 1 pc 1 flags 0 mask 0 mode 3 depth 1 "));
+    assert!(lines[0].starts_with("stop 60 value 0 imm 0 place 1 count 0 pc 0 flags 0 mask 0 mode 3 depth 0 words "));
+    assert!(lines[1].starts_with("stop 0 value 0 imm 0 place 0 count 1 pc 1 flags 0 mask 0 mode 3 depth 1 words "));
+}
+
+/// LDST at PC 0 of a machine with the words above; R1 to R3 are the value, the store's pointer and the load's.
+fn transfer(n: u8, registers: [u32; 3]) -> Runner {
+    let mut machine = Machine { words: WORDS, flags: 1, mask: 2, ..Machine::fresh() };
+    machine.registers[1..4].copy_from_slice(&registers);
+    let cells = vec![with_registers(1, n, 2, 3), 7, 8, 9];
+    Runner::new(machine, cells, vec![0; 16])
+}
+
+#[test]
+fn loads_of_words() {
+    for (address, value) in (0xFFFF_0300..).zip(WORDS) {
+        let mut runner = transfer(1, [5, 0, address]);
+        let before = runner.machine.clone();
+        assert_eq!(runner.step(), Answer::stop(0, 1));
+        assert_eq!(runner.journal[..8], [0, 1 + 512 * 2 + (3 << 18), 1, 5, 0, 0, 0, 1]);
+        let mut after = Machine { depth: 1, ..before.clone() };
+        (after.registers[1], after.registers[PC]) = (value, 1);
+        assert_eq!(runner.machine, after);
+        assert_eq!(runner.back(1), Answer::stop(0, 1));
+        assert_eq!(runner.machine, before);
+    }
+}
+
+/// A word of 0xFFFF0000 or more ends the run, another one is the next PC.
+#[test]
+fn loads_of_words_into_pc() {
+    for (address, value) in (0xFFFF_0300..).zip(WORDS) {
+        let mut runner = transfer(255, [5, 0, address]);
+        let ends = value >= 0xFFFF_0000;
+        assert_eq!(runner.step(), Answer::stop(ends as u32, 1));
+        assert_eq!((runner.machine.registers[PC], runner.machine.flags), (value, if ends { 257 } else { 1 }));
+    }
+}
+
+/// Legal is what gives a value; the mask held 2 and the mode 3, and cell 3 held 9.
+#[test]
+fn transfers_beside_words() {
+    for (value, store, load, loaded) in [
+        (5, 0, 0xFFFF_0002, Some(3)),
+        (5, 0, 0xFFFF_0003, None),
+        (5, 0, 0xFFFF_02FF, None),
+        (5, 0, 0xFFFF_0305, None),
+        (5, 0, 0xFFFF_FFFF, None),
+        (5, 3, 0xFFFF_0300, Some(2_025)),
+        (3, 0xFFFF_0002, 0xFFFF_0301, Some(11)),
+        (4, 0xFFFF_0002, 0xFFFF_0301, None),
+        (511, 0xFFFF_0001, 0xFFFF_0303, Some(0xFFFF_FFFF)),
+        (512, 0xFFFF_0001, 0xFFFF_0303, None),
+        (5, 0xFFFF_0000, 0xFFFF_0304, None),
+        (5, 0xFFFF_0300, 3, None),
+        (2_025, 0xFFFF_0300, 0xFFFF_0300, None),
+        (0, 0xFFFF_0304, 0, None),
+        (5, 3, 0xFFFF_0305, None),
+    ] {
+        let mut runner = transfer(1, [value, store, load]);
+        assert_eq!(runner.step(), Answer::stop(0, 1));
+        let machine = &runner.machine;
+        assert_eq!(
+            (machine.registers[1], machine.flags & 128),
+            (loaded.unwrap_or(value), if loaded.is_none() { 128 } else { 0 })
+        );
+        let done = loaded.is_some();
+        assert_eq!(runner.cells[3], if done && store == 3 { value } else { 9 });
+        assert_eq!(machine.mask, if done && store == 0xFFFF_0001 { value } else { 2 });
+        assert_eq!((machine.mode, machine.words), (3, WORDS));
+    }
+    for (store, load) in
+        [(4, 0xFFFF_0300), (0xFFFF_0300, 4), (0xFFFE_FFFF, 0xFFFF_0305), (0xFFFF_0305, 0xFFFE_0300)]
+    {
+        assert_eq!(transfer(1, [5, store, load]).step(), Answer::stop(5, 0));
+    }
+}
+
+fn loaded_words(records: &[Vec<u8>], host: Words) -> Result<Words, Refused> {
+    load(&records.concat(), host, &mut [0; 4]).map(|machine| machine.words)
+}
+
+#[test]
+fn jobs_with_words() {
+    let (words, end) = (words_record(WORDS), record(4, &[]));
+    assert_eq!(words[..14], [20, 0, 0, 0, 5, 0, 0xE9, 7, 0, 0, 11, 0, 0, 0]);
+    assert_eq!(loaded_words(&[end.clone()], [1, 2, 3, 4, 5]), Ok([1, 2, 3, 4, 5]));
+    assert_eq!(loaded_words(&[words.clone(), end.clone()], [1, 2, 3, 4, 5]), Ok(WORDS));
+    assert_eq!(loaded_words(&[words_record(NO_WORDS), end.clone()], WORDS), Ok(NO_WORDS));
+    let settings = record(3, &[0, 0, 0, 0, 3]);
+    assert_eq!(loaded_words(&[settings.clone(), words.clone(), end.clone()], NO_WORDS), Ok(WORDS));
+    assert_eq!(loaded_words(&[words.clone(), words.clone(), end.clone()], NO_WORDS), Err((46, 26)));
+    for record in [record(1, &[0; 6]), record(2, &[0; 5]), settings] {
+        assert_eq!(loaded_words(&[words.clone(), record, end.clone()], NO_WORDS), Err((46, 26)));
+    }
+    assert_eq!(loaded_words(&[end.clone(), words.clone()], NO_WORDS), Err((47, 6)));
+    assert_eq!(loaded_words(&[words.clone()], NO_WORDS), Err((41, 26)));
+    assert_eq!(loaded_words(&[words[..25].to_vec()], NO_WORDS), Err((44, 0)));
+    for length in [0, 4, 16, 19, 21, 24] {
+        assert_eq!(loaded_words(&[record(5, &vec![0; length]), end.clone()], NO_WORDS), Err((43, 0)));
+    }
+    for kind in [0, 6, 0x0105] {
+        assert_eq!(loaded_words(&[record(kind, &[0; 20]), end.clone()], NO_WORDS), Err((42, 0)));
+    }
+}
+
+/// A host that gives zeros, and a job that decides over them.
+#[test]
+fn words_that_runjob_and_check_rule_read() {
+    let rule = ["LDLIZ R2, #772", "LDUI R2, #65535", "LDST R1, R0, R2", "LDUI R255, #65535"];
+    let job = job_of(&rule);
+    let ended = "exit 1 steps 4 pc 4294901764 flags 256\n";
+    assert_eq!(runjob(&job).0, format!("{ended}R2 4294902532\n"));
+    let split = job.len() - 6;
+    let job = [&job[..split], &words_record([1, 2, 3, 4, 5]), &job[split..]].concat();
+    assert_eq!(runjob(&job).0, format!("{ended}R1 5\nR2 4294902532\n"));
+    assert_eq!(check_rule::text(None, &job), "forward only: at most 4 steps\n");
+    assert_eq!(check_rule::text(None, &[&words_record(WORDS)[..], &job].concat()), "refused 46 at 26\n");
 }
 
 /// Two lists that differ in one word, or in which of their places a word stands.
@@ -554,7 +683,7 @@ fn digests_differ() {
     let only = |place: usize, word: u32| {
         let mut list = [0; 256];
         list[place] = word;
-        trial::words(&list)
+        trial::digest_of(&list)
     };
     let all_differ = |mut digests: Vec<u64>| {
         let count = digests.len();
@@ -568,8 +697,8 @@ fn digests_differ() {
     assert!(all_differ(
         [0, 1, 2, 3, 4, 5, 0x8000_0000, 0xFFFF_FFFB, 0xFFFF_FFFF].map(|word| only(7, word)).to_vec()
     ));
-    assert_ne!(trial::words(&[3, 9, 7]), trial::words(&[3, 7, 9]));
-    assert_ne!(trial::words(&[0; 3]), trial::words(&[0; 4]));
+    assert_ne!(trial::digest_of(&[3, 9, 7]), trial::digest_of(&[3, 7, 9]));
+    assert_ne!(trial::digest_of(&[0; 3]), trial::digest_of(&[0; 4]));
 }
 
 /// With any seed: the trials can be read and answered, and nothing is missing from the table.

@@ -3,7 +3,7 @@
 use crate::cell::{self, Decoded, Operands};
 use crate::job;
 use crate::line;
-use crate::machine::{Answer, Machine, Runner, PC};
+use crate::machine::{Answer, Machine, Runner, Words, NO_WORDS, PC};
 use crate::profile::{self, Fault};
 use crate::table::Tally;
 
@@ -62,6 +62,14 @@ impl<'a> Input<'a> {
         Ok(self.number(4)? as u32)
     }
 
+    fn five_words(&mut self) -> Result<Words, String> {
+        let mut words = Words::default();
+        for word in &mut words {
+            *word = self.word()?;
+        }
+        Ok(words)
+    }
+
     /// A length that may not exceed what the format allows.
     fn length(&mut self, bytes: usize, most: usize) -> Result<usize, String> {
         let length = self.number(bytes)? as usize;
@@ -98,16 +106,17 @@ fn digest(words: impl Iterator<Item = u32>) -> u64 {
     words.fold(0, |sum, word| (sum * 1_000_003 + word as u64 + 1) % 1_000_000_000_039)
 }
 
-pub fn words(list: &[u32]) -> u64 {
+pub fn digest_of(list: &[u32]) -> u64 {
     digest(list.iter().copied())
 }
 
 fn machine_text(machine: &Machine, cells: &[u32]) -> String {
-    let Machine { registers, flags, mask, mode, depth } = machine;
+    let Machine { registers, flags, mask, mode, depth, words } = machine;
     format!(
-        "flags {flags} mask {mask} mode {mode} depth {depth} registers {} cells {}",
-        words(registers),
-        words(cells)
+        "flags {flags} mask {mask} mode {mode} depth {depth} words {} registers {} cells {}",
+        digest_of(words),
+        digest_of(registers),
+        digest_of(cells)
     )
 }
 
@@ -187,8 +196,8 @@ fn read(input: &mut Input, tally: &mut Tally) -> String {
 }
 
 /// A load's two lines, and the machine that it answers: a fresh one if it refuses.
-fn load_text(job: &[u8], cells: &mut [u32], tally: &mut Tally) -> (String, Machine) {
-    let (first, machine) = match job::load(job, cells) {
+fn load_text(job: &[u8], host: Words, cells: &mut [u32], tally: &mut Tally) -> (String, Machine) {
+    let (first, machine) = match job::load(job, host, cells) {
         Ok(machine) => ("loaded".to_string(), machine),
         Err((number, offset)) => {
             tally.refusal("load", number);
@@ -209,13 +218,15 @@ fn save_text(saved: Result<usize, u32>, room: &[u8], tally: &mut Tally) -> Strin
 
 fn load(input: &mut Input, tally: &mut Tally) -> Result<String, String> {
     let (m, room) = (input.length(4, MOST_CELLS)?, input.length(4, MOST_SAVE_ROOM)?);
-    Ok(load_and_save(std::mem::take(&mut input.bytes), m, room, tally))
+    let host = input.five_words()?;
+    Ok(load_and_save(std::mem::take(&mut input.bytes), host, m, room, tally))
 }
 
 /// A job whose head and tail are given, and between them as many bytes as are told: byte i of the
 /// job is there the upper byte of seed + step * i, modulo 65,536.
 fn described(input: &mut Input, tally: &mut Tally) -> Result<String, String> {
     let (m, room) = (input.length(4, MOST_CELLS)?, input.length(4, MOST_SAVE_ROOM)?);
+    let host = input.five_words()?;
     let middle = input.length(4, MOST_JOB)?;
     let (seed, step) = (input.number(2)? as usize, input.number(2)? as usize);
     let head = input.length(2, MOST_JOB)?;
@@ -225,20 +236,22 @@ fn described(input: &mut Input, tally: &mut Tally) -> Result<String, String> {
     if job.len() > MOST_JOB {
         return Err(format!("a job of {} bytes is above {MOST_JOB}", job.len()));
     }
-    let text = load_and_save(&job, m, room, tally);
+    let text = load_and_save(&job, host, m, room, tally);
     tally.described(&job, &text);
     Ok(text)
 }
 
-fn load_and_save(job: &[u8], m: usize, room: usize, tally: &mut Tally) -> String {
+/// Where the job that was saved is loaded again, the host gives other words: those in the job decide.
+fn load_and_save(job: &[u8], host: Words, m: usize, room: usize, tally: &mut Tally) -> String {
     let mut cells = vec![CELLS_FILL; m];
     let mut room = vec![ROOM_FILL; room];
-    let (mut text, machine) = load_text(job, &mut cells, tally);
+    let (mut text, machine) = load_text(job, host, &mut cells, tally);
+    tally.job("load", job, host, &text);
     let saved = job::save(&machine, &cells, &mut room);
     text += &save_text(saved, &room, tally);
     if let Ok(length) = saved {
         let mut fresh = vec![FRESH_CELLS_FILL; cells.len()];
-        text += &load_text(&room[..length], &mut fresh, tally).0;
+        text += &load_text(&room[..length], host.map(|word| !word), &mut fresh, tally).0;
     }
     text
 }
@@ -253,10 +266,11 @@ fn settings(input: &mut Input, place_bytes: usize, list: &mut [u32]) -> Result<(
     Ok(())
 }
 
-/// The machine of which the payload gives settings, depth and registers.
+/// The machine of which the payload gives settings, depth, words and registers.
 fn machine(input: &mut Input) -> Result<Machine, String> {
     let (flags, mask, mode, depth) = (input.word()?, input.word()?, input.word()?, input.word()?);
-    let mut machine = Machine { registers: [0; 256], flags, mask, mode, depth };
+    let words = input.five_words()?;
+    let mut machine = Machine { registers: [0; 256], flags, mask, mode, depth, words };
     settings(input, 1, &mut machine.registers)?;
     Ok(machine)
 }
@@ -310,13 +324,15 @@ fn call_text(answer: &Answer, runner: &Runner) -> String {
         "stop {stop} value {value} imm {imm} place {place} count {count} pc {} {} journal {}\n",
         runner.machine.registers[PC],
         machine_text(&runner.machine, &runner.cells),
-        words(&runner.journal)
+        digest_of(&runner.journal)
     )
 }
 
 fn runjob(input: &mut Input, tally: &mut Tally) -> String {
-    let (text, runner) = job::runjob(std::mem::take(&mut input.bytes));
+    let job = std::mem::take(&mut input.bytes);
+    let (text, runner) = job::runjob(job);
     tally.runjob(&text);
+    tally.job("runjob", job, NO_WORDS, &text);
     if let Some(runner) = &runner {
         tally.executed(runner);
     }

@@ -55,7 +55,7 @@ module _ (m : Machine) (regs cells journal : List ℕ) where
 
   -- the entry at the depth that is reached is the one that the last step back was taken by
   pub last-taken : (k at n : ℕ) (e : Entry) → (k ≡ 0 → ⊥) → k ≤ m .depth → m .depth ≤ capacityOf journal → at ≡ startOf (m .depth - k) → n ≡ 8
-      → e ≡ firstIn (take n (drop at journal)) → backTo e regs (m .depth - k) cells journal ≡ reached m k regs cells journal
+      → e ≡ firstIn (take n (drop at journal)) → backTo e regs (m .depth - k) (m .host) cells journal ≡ reached m k regs cells journal
   unfolding reached
   last-taken zero at n e some few room p q read = absurd (some refl)
   last-taken (suc k) at n e some few room p q read =

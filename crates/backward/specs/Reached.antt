@@ -9,10 +9,10 @@ use Rattle.journal.specs.declared.Entry.{Entry}
 use Rattle.journal.specs.Journal.{lastOf}
 
 -- PC and settings are an entry's, and regs are the other registers
-abbrev pub backTo : Entry → List ℕ → ℕ → List ℕ → List ℕ → State
-backTo e regs depth cells journal = stateWith (set regs 255 (e .pc)) (unpackedOf (e .settings)) depth cells journal
+abbrev pub backTo : Entry → List ℕ → ℕ → List ℕ → List ℕ → List ℕ → State
+backTo e regs depth host cells journal = stateWith (set regs 255 (e .pc)) (unpackedOf (e .settings)) depth host cells journal
 
 -- The state after so many steps back from m; none leaves m as it was.
 unfoldable pub reached : Machine → ℕ → List ℕ → List ℕ → List ℕ → State
 reached m zero regs cells journal = stateOf m cells journal
-reached m (suc k) regs cells journal = backTo (lastOf journal (m .depth - k)) regs (m .depth - suc k) cells journal
+reached m (suc k) regs cells journal = backTo (lastOf journal (m .depth - k)) regs (m .depth - suc k) (m .host) cells journal

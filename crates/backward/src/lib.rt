@@ -47,11 +47,13 @@ fn finish(regs: &[u32; 256], m: Machine, journal: &[u32], at: usize, undone: u32
     let e = entry_in(&journal[at..at + Entry::WORDS]);
     let mut before = *regs;
     before[255] = e.pc;
+    let host = m.host;
     Ran {
         machine: Machine {
             regs: before,
             settings: unpack(e.settings),
             depth: m.depth - undone,
+            host,
         },
         stop,
         count: undone as u64,

@@ -52,7 +52,7 @@ fn report(t: Tally) {
 
 // Loads a job and reports on its rounds, or writes that it is refused.
 fn measure(job: &[u8], cells: &mut [u32], journal: &mut [u32], times: u32, number: u64) {
-    let loaded = job::load(job, cells);
+    let loaded = job::load(job, [0u32; 5], cells);
     let answer = loaded.answer;
     match answer {
         Answer::Done => report(rounds::go_round(loaded.machine, cells, journal, times, number)),

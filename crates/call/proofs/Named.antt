@@ -10,6 +10,7 @@ use Rattle.call.specs.Calls.{Out}
 use Rattle.call.specs.declared.Checked.{Checked}
 use Rattle.call.specs.declared.Checked.the-variants.{Fine, Bad}
 use Rattle.call.specs.Answers.{outOf, checkedOf}
+use Rattle.machine.specs.State.{machineOf}
 use Rattle.machine.specs.Stops.{Said}
 use Rattle.machine.proofs.Named.{heard, heard-said}
 
@@ -21,11 +22,7 @@ record Left : Type 0 where
 
 abbrev left : Out → Left
 left o = record {
-  answer = record {
-    machine = record { regs = o .state .regs; settings = o .state .settings; depth = o .state .depth };
-    stop = heard (o .said);
-    count = o .count;
-  };
+  answer = record { machine = machineOf (o .state); stop = heard (o .said); count = o .count };
   cells = o .state .cells;
   journal = o .state .journal;
 }

@@ -22,8 +22,8 @@ abbrev pub left : List ℕ → List ℕ → List ℕ → ℕ → ℕ → Left
 left regs cells part settings told = record { regs = regs; cells = cells; part = part; settings = settings; told = told }
 
 -- the state before it: settings as a word stands for them, and the part that is lent as a journal of depth 0
-abbrev pub before : List ℕ → ℕ → List ℕ → List ℕ → State
-before regs s cells part = stateWith regs (unpackedOf s) 0 cells part
+abbrev pub before : List ℕ → ℕ → List ℕ → List ℕ → List ℕ → State
+before regs s host cells part = stateWith regs (unpackedOf s) 0 host cells part
 
 -- What is told, where told was before: the flags that it raised, all below the bound, if there are any; or one of these.
 abbrev pub toldInt : ℕ

@@ -123,8 +123,8 @@ pub fn put(regs: &mut [u32; 256], s: u32, told: &mut u32, n: u32, w: Written) ->
 
 // A reserved opcode, or an LDST at an address that it does not know: flag 128 is set, and nothing else is done.
 pub fn illegal(part: &mut [u32], regs: &mut [u32; 256], s: u32, told: &mut u32) -> u32
-    ensures { λ r. ⌜ ((cells : List ℕ) → left (now (regs .exit)) cells (now (part .exit)) r (now (told .exit))
-        ≡ leftOf (now (told .entry)) Illegal (before (now (regs .entry)) s cells (now (part .entry)))) ⌝ }
+    ensures { λ r. ⌜ ((host cells : List ℕ) → left (now (regs .exit)) cells (now (part .exit)) r (now (told .exit))
+        ≡ leftOf (now (told .entry)) Illegal (before (now (regs .entry)) s host cells (now (part .entry)))) ⌝ }
 {
     move_on(part, regs, s);
     *told = Flag::ILLEGAL;

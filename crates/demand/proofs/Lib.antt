@@ -7,9 +7,11 @@ pub mod Forward
 pub mod Exit
 pub mod Return
 pub mod Illegal
+pub mod Host
 pub mod Travel
 pub mod Loaded
 pub mod Once
 pub mod Refusals
 pub mod Readback
 pub mod Reload
+pub mod Wordless

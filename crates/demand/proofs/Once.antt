@@ -195,22 +195,22 @@ result-once w n s told regs after after' r t said said' p q = (unique (p .0) (q 
 
 -- An instruction carried out over 256 registers, by `carry_out` and `transfer`: registers, cells and part, the settings, and what is told.
 module _ (told : ℕ) (a : Action) (regs : List ℕ) (long : length regs ≡ 256) (s : ℕ) (part : List ℕ) where
-  pub carry-out-once : (cells after after' kept kept' noted noted' : List ℕ) (r t said said' : ℕ)
-      → (length regs ≡ 256 → left after kept noted r said ≡ leftOf told a (before regs s cells part))
-      → (length regs ≡ 256 → left after' kept' noted' t said' ≡ leftOf told a (before regs s cells part))
+  pub carry-out-once : (host cells after after' kept kept' noted noted' : List ℕ) (r t said said' : ℕ)
+      → (length regs ≡ 256 → left after kept noted r said ≡ leftOf told a (before regs s host cells part))
+      → (length regs ≡ 256 → left after' kept' noted' t said' ≡ leftOf told a (before regs s host cells part))
       → (after ≡ after') × (kept ≡ kept') × (noted ≡ noted') × (r ≡ t) × (said ≡ said')
-  carry-out-once cells after after' kept kept' noted noted' r t said said' p q =
+  carry-out-once host cells after after' kept kept' noted noted' r t said said' p q =
       let e = unique (p long) (q long) in
       (ap (λ (l : Left). l .regs) e, ap (λ (l : Left). l .cells) e, ap (λ (l : Left). l .part) e, ap (λ (l : Left). l .settings) e, ap (λ (l : Left). l .told) e)
 
   -- One that is lent no cells promises it for all cells, and so for none: `registers`, `immediate`, `turned`, `branch`, `interrupt`, `illegal`; and `swap`,
   -- `load`, `split`, which tell nothing, and promise it for whatever was told.
   pub without-cells-once : (after after' noted noted' : List ℕ) (r t said said' : ℕ)
-      → ((cells : List ℕ) → length regs ≡ 256 → left after cells noted r said ≡ leftOf told a (before regs s cells part))
-      → ((cells : List ℕ) → length regs ≡ 256 → left after' cells noted' t said' ≡ leftOf told a (before regs s cells part))
+      → ((host cells : List ℕ) → length regs ≡ 256 → left after cells noted r said ≡ leftOf told a (before regs s host cells part))
+      → ((host cells : List ℕ) → length regs ≡ 256 → left after' cells noted' t said' ≡ leftOf told a (before regs s host cells part))
       → (after ≡ after') × (noted ≡ noted') × (r ≡ t) × (said ≡ said')
   without-cells-once after after' noted noted' r t said said' p q =
-      let w = carry-out-once [] after after' [] [] noted noted' r t said said' (p []) (q []) in
+      let w = carry-out-once [] [] after after' [] [] noted noted' r t said said' (p [] []) (q [] []) in
       (w .0, w .2, w .3, w .4)
 
 -- what a profile says of a cell and of a rule
@@ -281,9 +281,9 @@ room-with : (r : Saved) (room : List ℕ) → saveWith r room .room ≡ room
 room-with (save.Written n) room = refl
 room-with (save.Unsaved why) room = refl
 
-pub load-once : (bytes before : List ℕ) (r t : Loaded) (cells cells' : List ℕ) → loadWith r cells ≡ job.loadOf bytes before → loadWith t cells' ≡ job.loadOf bytes before
+pub load-once : (bytes host before : List ℕ) (r t : Loaded) (cells cells' : List ℕ) → loadWith r cells ≡ job.loadOf bytes host before → loadWith t cells' ≡ job.loadOf bytes host before
     → (r ≡ t) × (cells ≡ cells')
-load-once bytes before r t cells cells' p q =
+load-once bytes host before r t cells cells' p q =
     let e = unique p q in
     (sym (loaded-with r cells) ∙ ap loaded e ∙ loaded-with t cells', ap (λ (l : job.Load). l .cells) e)
 

@@ -16,14 +16,14 @@ use Rattle.machine.specs.declared.Settings.{Settings}
 use Rattle.machine.specs.State.{flagsBound, InRange, mostCells, freshSettings, badSettings}
 use Rattle.machine.proofs.Tests.{picked}
 use Rattle.lent.specs.Little.{littleOf, bytesOf, numberAt}
-use Rattle.job.specs.Job.{kindBy, knownOf, fitsOf, endsOf, baseOf, countOf, wordsOf, cellsIn, registerOf, registerValue, settingsIn, sizeOf, kindOf, payloadOf, pastOf, inOrder, withinOf, settingsFit, passed, fateOf, refusalFrom, Content, contentOf, contentFrom}
-use Rattle.saver.specs.Saving.{recordOf, wordBytes, runRecord, runsFrom, valueRecord, valuesFrom, freshOf, setupOf}
+use Rattle.job.specs.Job.{rowBy, knownOf, fitsOf, endsOf, baseOf, countOf, wordsOf, cellsIn, registerOf, registerValue, settingsIn, hostIn, sizeOf, rowOf, kindOf, payloadOf, pastOf, inOrder, withinOf, settingsFit, passed, fateOf, refusalFrom, Content, contentOf, contentFrom}
+use Rattle.saver.specs.Saving.{recordOf, wordBytes, runRecord, runsFrom, valueRecord, valuesFrom, freshOf, setupOf, hostOf}
 use Rattle.lent.proofs.Numbers.{bound, take-bytes, drop-bytes, little-bytes}
 use Rattle.job.proofs.Words.{number-drop}
-use Rattle.job.proofs.Walk.{SoFar}
+use Rattle.job.proofs.Walk.{SoFar, fate-by}
 use Rattle.job.proofs.Rules.{and-left, and-right}
 use Rattle.text.proofs.Adds.{sets-append}
-use Rattle.saver.proofs.Pieces.{head-length, length-record, run-payload, value-none, value-record, value-payload, setup-none, setup-record, setup-payload}
+use Rattle.saver.proofs.Pieces.{head-length, length-record, run-payload, value-none, value-record, value-payload, setup-none, setup-record, setup-payload, host-record, host-payload}
 use Rattle.machine.specs.Lawful.{Words}
 
 -- ---- a number is read as it was written
@@ -43,11 +43,11 @@ Reads m past c left final = (fuel offset : ℕ) → length left ≤ fuel → (re
 
 -- a payload that passes every test
 record Fine (m : ℕ) (past : SoFar) (n : ℕ) (payload : List ℕ) : Type 0 where
-  known : knownOf (kindBy n) ≡ true
-  fits : fitsOf (kindBy n) (length payload) ≡ true
-  order : inOrder past (kindBy n) payload ≡ true
-  within : withinOf m (kindBy n) payload ≡ true
-  settled : settingsFit (kindBy n) payload ≡ true
+  known : knownOf (rowBy n .kind) ≡ true
+  fits : fitsOf (rowBy n) (length payload) ≡ true
+  order : inOrder past (rowBy n) payload ≡ true
+  within : withinOf m (rowBy n .kind) payload ≡ true
+  settled : settingsFit (rowBy n .kind) payload ≡ true
 
 abbrev written : ℕ → List ℕ → List ℕ → List ℕ
 written n payload rest = recordOf n payload ++ rest
@@ -64,9 +64,12 @@ module _ (n : ℕ) (payload rest : List ℕ) (low : n < 65536) (short : length p
   unfolding bound
   size-back = rw parted (read-number 4 (length payload) (bytesOf 2 n ++ (payload ++ rest)) short)
 
-  kind-back : kindOf (written n payload rest) ≡ kindBy n
+  row-back : rowOf (written n payload rest) ≡ rowBy n
   unfolding bound
-  kind-back = ap kindBy (rw parted (read-past 4 (length payload) 0 2 (bytesOf 2 n ++ (payload ++ rest)) ∙ read-number 2 n (payload ++ rest) low))
+  row-back = ap rowBy (rw parted (read-past 4 (length payload) 0 2 (bytesOf 2 n ++ (payload ++ rest)) ∙ read-number 2 n (payload ++ rest) low))
+
+  kind-back : kindOf (written n payload rest) ≡ rowBy n .kind
+  kind-back = λ i. row-back i .kind
 
   after-head : drop 6 (written n payload rest) ≡ payload ++ rest
   after-head = rw headed (drop-at (bytesOf 4 (length payload) ++ bytesOf 2 n) (payload ++ rest) 6 (head-length (length payload) n))
@@ -81,14 +84,13 @@ module _ (n : ℕ) (payload rest : List ℕ) (low : n < 65536) (short : length p
   long = length-append (recordOf n payload) rest ∙ ap (λ (k : ℕ). k + length rest) (length-record n payload)
 
   module _ (m : ℕ) (past : SoFar) (f : Fine m past n payload) where
-    course-back : fateOf m past (written n payload rest) ≡ passed (endsOf (kindBy n)) (pastOf past (kindBy n) payload) (length payload)
-    unfolding fateOf
+    course-back : fateOf m past (written n payload rest) ≡ passed (endsOf (rowBy n .kind)) (pastOf past (rowBy n .kind) (rowBy n .rank) payload) (length payload)
     course-back =
-        rw (
+        sym (fate-by m past (rowBy n) (length payload) (written n payload rest) (sym row-back) (sym size-back))
+        ∙ rw (
           le-ltb (length (written n payload rest)) 6 (omega (arith, long)),
-          kind-back,
-          payload-back,
-          size-back,
+          after-head,
+          take-append-seam payload rest,
           le-ltb (length (written n payload rest)) (6 + length payload) (omega (arith, long)),
           f .known,
           f .fits,
@@ -97,7 +99,7 @@ module _ (n : ℕ) (payload rest : List ℕ) (low : n < 65536) (short : length p
           f .settled,
         )
 
-    reads-on : (c final : Content) → endsOf (kindBy n) ≡ false → Reads m (pastOf past (kindBy n) payload) (contentOf (kindBy n) payload c) rest final → Reads m past c (written n payload rest) final
+    reads-on : (c final : Content) → endsOf (rowBy n .kind) ≡ false → Reads m (pastOf past (rowBy n .kind) (rowBy n .rank) payload) (contentOf (rowBy n .kind) payload c) rest final → Reads m past c (written n payload rest) final
     unfolding refusalFrom contentFrom
     reads-on c final e r zero offset h = absurd (omega (arith, long))
     reads-on c final e r (suc k) offset h =
@@ -106,13 +108,13 @@ module _ (n : ℕ) (payload rest : List ℕ) (low : n < 65536) (short : length p
 
 -- ---- kind 4
 
-module _ (m : ℕ) (past : SoFar) (c : Content) (p : past .rank ≤ 4) where
+module _ (m : ℕ) (past : SoFar) (c : Content) (p : past .rank ≤ 5) where
   end-fine : Fine m past 4 []
-  unfolding inOrder kindBy
-  end-fine = record { known = refl; fits = refl; order = rw (le-leb (past .rank) 4 p); within = refl; settled = refl }
+  unfolding inOrder rowBy
+  end-fine = record { known = refl; fits = refl; order = rw (le-leb (past .rank) 5 p); within = refl; settled = refl }
 
-  ends-4 : endsOf (kindBy 4) ≡ true
-  unfolding kindBy
+  ends-4 : endsOf (rowBy 4 .kind) ≡ true
+  unfolding rowBy
   ends-4 = refl
 
   last : Reads m past c (written 4 [] []) c
@@ -155,27 +157,27 @@ fresh-is s h =
     (eqb-true (s .mode) 3 (and-right (f && m) o h))
 
 module _ (m : ℕ) (past : SoFar) (c : Content) (s : Settings) (rest : List ℕ) (final : Content) (range : InRange s) (fresh : c .settings ≡ freshSettings) (p : past .rank < 3)
-    (r : (seen : SoFar) → seen .rank ≤ 3 → Reads m seen (record { regs = c .regs; settings = s; cells = c .cells }) rest final) where
+    (r : (seen : SoFar) → seen .rank ≤ 3 → Reads m seen (record { regs = c .regs; settings = s; host = c .host; cells = c .cells }) rest final) where
   setup-fine : Fine m past 3 (setupPayload s)
-  unfolding inOrder kindBy
+  unfolding inOrder rowBy
   setup-fine = record {
     known = refl;
-    fits = eq-eqb (length (setupPayload s)) 5 (setup-payload s);
+    fits = rw (setup-payload s);
     order = rw (le-leb (past .rank) 3 (omega arith), lt-ltb (past .rank) 3 p);
     within = refl;
     settled = ap (λ (x : Settings). not (badSettings x)) (setup-back s range) ∙ rw (lt-leb flagsBound (s .flags) (range .flags), lt-leb flagsBound (s .mask) (range .mask), lt-leb 4 (s .mode) (range .mode));
   }
 
   by-fresh : (t : Bool) → freshOf s ≡ t → Reads m past c (setupOf s ++ rest) final
-  unfolding kindBy
+  unfolding rowBy
   by-fresh true e =
       rw (setup-none s e)
-      (subst (λ (x : Settings). Reads m past (record { regs = c .regs; settings = x; cells = c .cells }) rest final) (fresh-is s e ∙ sym fresh) (r past (omega arith)))
+      (subst (λ (x : Settings). Reads m past (record { regs = c .regs; settings = x; host = c .host; cells = c .cells }) rest final) (fresh-is s e ∙ sym fresh) (r past (omega arith)))
   by-fresh false e =
       rw (setup-record s e)
       (reads-on 3 (setupPayload s) rest (omega arith) (omega (arith, setup-payload s)) m past setup-fine c final refl
-      (subst (λ (x : Settings). Reads m (pastOf past (kindBy 3) (setupPayload s)) (record { regs = c .regs; settings = x; cells = c .cells }) rest final) (sym (setup-back s range))
-      (r (pastOf past (kindBy 3) (setupPayload s)) (omega arith))))
+      (subst (λ (x : Settings). Reads m (pastOf past (rowBy 3 .kind) (rowBy 3 .rank) (setupPayload s)) (record { regs = c .regs; settings = x; host = c .host; cells = c .cells }) rest final) (sym (setup-back s range))
+      (r (pastOf past (rowBy 3 .kind) (rowBy 3 .rank) (setupPayload s)) (omega arith))))
 
   pub reads-setup : Reads m past c (setupOf s ++ rest) final
   reads-setup = by-fresh (freshOf s) refl
@@ -211,44 +213,44 @@ unfolding bound
 register-back i v h = read-number 1 i (bytesOf 4 v) h
 
 module _ (i v m : ℕ) (past : SoFar) (c : Content) (rest : List ℕ) (final : Content) (p : past .rank ≤ 2) (q : past .next ≤ i) (b : i < 256) (w : v < 2 ^ 32) (z : Zeros (c .regs) i)
-    (r : (seen : SoFar) → seen .rank ≤ 2 → seen .next ≤ i + 1 → Reads m seen (record { regs = set (c .regs) i v; settings = c .settings; cells = c .cells }) rest final) where
+    (r : (seen : SoFar) → seen .rank ≤ 2 → seen .next ≤ i + 1 → Reads m seen (record { regs = set (c .regs) i v; settings = c .settings; host = c .host; cells = c .cells }) rest final) where
   value-fine : Fine m past 2 (valuePayload i v)
-  unfolding inOrder kindBy
+  unfolding inOrder rowBy
   value-fine = record {
     known = refl;
-    fits = eq-eqb (length (valuePayload i v)) 5 (value-payload i v);
+    fits = rw (value-payload i v);
     order = rw (le-leb (past .rank) 2 p, register-back i v b, le-leb (past .next) i q);
     within = refl;
     settled = refl;
   }
 
   by-value : (t : Bool) → eqb v 0 ≡ t → Reads m past c (valueRecord i v ++ rest) final
-  unfolding kindBy
+  unfolding rowBy
   by-value true e =
       let n : v ≡ 0 = eqb-true v 0 e in
       rw (value-none i v n)
-      (subst (λ (x : List ℕ). Reads m past (record { regs = x; settings = c .settings; cells = c .cells }) rest final) (ap (set (c .regs) i) n ∙ zero-kept (c .regs) i z)
+      (subst (λ (x : List ℕ). Reads m past (record { regs = x; settings = c .settings; host = c .host; cells = c .cells }) rest final) (ap (set (c .regs) i) n ∙ zero-kept (c .regs) i z)
       (r past p (omega arith)))
   by-value false e =
       let k : set (c .regs) (registerOf (valuePayload i v)) (registerValue (valuePayload i v)) ≡ set (c .regs) i v = rw (register-back i v b, value-back i v w) in
       rw (value-record i v (eqb-false v 0 e))
       (reads-on 2 (valuePayload i v) rest (omega arith) (omega (arith, value-payload i v)) m past value-fine c final refl
-      (subst (λ (x : List ℕ). Reads m (pastOf past (kindBy 2) (valuePayload i v)) (record { regs = x; settings = c .settings; cells = c .cells }) rest final) (sym k)
-      (r (pastOf past (kindBy 2) (valuePayload i v)) (omega arith) (omega (arith, register-back i v b)))))
+      (subst (λ (x : List ℕ). Reads m (pastOf past (rowBy 2 .kind) (rowBy 2 .rank) (valuePayload i v)) (record { regs = x; settings = c .settings; host = c .host; cells = c .cells }) rest final) (sym k)
+      (r (pastOf past (rowBy 2 .kind) (rowBy 2 .rank) (valuePayload i v)) (omega arith) (omega (arith, register-back i v b)))))
 
   reads-value : Reads m past c (valueRecord i v ++ rest) final
   reads-value = by-value (eqb v 0) refl
 
 pub reads-values : (regs : List ℕ) (i m : ℕ) (past : SoFar) (c : Content) (rest : List ℕ) (final : Content)
     → past .rank ≤ 2 → past .next ≤ i → i + length regs ≤ 256 → Words regs → Zeros (c .regs) i
-    → ((seen : SoFar) → seen .rank ≤ 2 → Reads m seen (record { regs = sets (c .regs) i regs; settings = c .settings; cells = c .cells }) rest final)
+    → ((seen : SoFar) → seen .rank ≤ 2 → Reads m seen (record { regs = sets (c .regs) i regs; settings = c .settings; host = c .host; cells = c .cells }) rest final)
     → Reads m past c (valuesFrom i regs ++ rest) final
 unfolding valuesFrom
 reads-values [] i m past c rest final p q b w z r = r past p
 reads-values (v ∷ regs) i m past c rest final p q b w z r =
     rw (append-assoc (valueRecord i v) (valuesFrom (i + 1) regs) rest)
     (reads-value i v m past c (valuesFrom (i + 1) regs ++ rest) final p q (omega arith) (w 0) z (λ seen a n.
-    reads-values regs (i + 1) m seen (record { regs = set (c .regs) i v; settings = c .settings; cells = c .cells }) rest final a n (omega arith) (λ j. w (suc j)) (zeros-set (c .regs) i v z) (λ later d.
+    reads-values regs (i + 1) m seen (record { regs = set (c .regs) i v; settings = c .settings; host = c .host; cells = c .cells }) rest final a n (omega arith) (λ j. w (suc j)) (zeros-set (c .regs) i v z) (λ later d.
     rw (add-one i) (r later d))))
 
 -- ---- kind 1
@@ -272,17 +274,17 @@ module _ (base : ℕ) (run : List ℕ) where
   cells-back : Words run → cellsIn (runPayload base run) ≡ run
   cells-back w = rw (count-back, drop-bytes 2 base (wordBytes run)) (words-back run w)
 
-  run-fits : 1 ≤ length run → length run ≤ mostCells → fitsOf (kindBy 1) (length (runPayload base run)) ≡ true
-  unfolding kindBy
+  run-fits : 1 ≤ length run → length run ≤ mostCells → fitsOf (rowBy 1) (length (runPayload base run)) ≡ true
+  unfolding rowBy
   run-fits h k =
-      rw (run-payload base run, le-leb 6 (2 + 4 * length run) (omega arith), le-leb (2 + 4 * length run) 65538 (omega arith), eq-eqb ((2 + 4 * length run - 2) % 4) 0 (omega arith))
+      rw (run-payload base run, le-leb 6 (2 + 4 * length run) (omega arith), le-leb (2 + 4 * length run) 65538 (omega arith), eq-eqb ((2 + 4 * length run - 6) % 4) 0 (omega arith))
 
 reads-run : (run : List ℕ) (base m : ℕ) (past : SoFar) (c : Content) (rest : List ℕ) (final : Content)
     → m ≤ mostCells → past .rank ≤ 1 → past .end ≤ base → past .next ≤ 0 → base + length run ≤ m → Words run
     → ((seen : SoFar) → seen .rank ≤ 1 → seen .end ≤ base + length run → seen .next ≤ 0
-    → Reads m seen (record { regs = c .regs; settings = c .settings; cells = sets (c .cells) base run }) rest final)
+    → Reads m seen (record { regs = c .regs; settings = c .settings; host = c .host; cells = sets (c .cells) base run }) rest final)
     → Reads m past c (runRecord base run ++ rest) final
-unfolding runRecord inOrder kindBy
+unfolding runRecord inOrder rowBy
 reads-run [] base m past c rest final few p e n b w r = r past p (omega arith) n
 reads-run (v ∷ run) base m past c rest final few p e n b w r =
     let payload = runPayload base (v ∷ run) in
@@ -298,8 +300,35 @@ reads-run (v ∷ run) base m past c rest final few p e n b w r =
       settled = refl;
     })
     c final refl
-    (subst (λ (x : List ℕ). Reads m (pastOf past (kindBy 1) payload) (record { regs = c .regs; settings = c .settings; cells = x }) rest final) (sym k)
-    (r (pastOf past (kindBy 1) payload) (omega arith) (omega arith) n))
+    (subst (λ (x : List ℕ). Reads m (pastOf past (rowBy 1 .kind) (rowBy 1 .rank) payload) (record { regs = c .regs; settings = c .settings; host = c .host; cells = x }) rest final) (sym k)
+    (r (pastOf past (rowBy 1 .kind) (rowBy 1 .rank) payload) (omega arith) (omega arith) n))
+
+-- ---- kind 5
+
+module _ (m : ℕ) (past : SoFar) (c : Content) (words rest : List ℕ) (final : Content) (five : length words ≡ 5) (w : Words words) (p : past .rank < 4)
+    (r : (seen : SoFar) → seen .rank ≤ 4 → Reads m seen (record { regs = c .regs; settings = c .settings; host = words; cells = c .cells }) rest final) where
+  host-fine : Fine m past 5 (wordBytes words)
+  unfolding inOrder rowBy
+  host-fine = record {
+    known = refl;
+    fits = rw (host-payload words five);
+    order = rw (le-leb (past .rank) 4 (omega arith), lt-ltb (past .rank) 4 p);
+    within = refl;
+    settled = refl;
+  }
+
+  host-back : hostIn (wordBytes words) ≡ words
+  host-back = ap (λ (n : ℕ). wordsOf n (wordBytes words)) (sym five) ∙ words-back words w
+
+  pub reads-host : Reads m past c (hostOf words ++ rest) final
+  unfolding rowBy
+  reads-host =
+      rw (host-record words)
+      (reads-on 5 (wordBytes words) rest (omega arith) (omega (arith, host-payload words five)) m past host-fine c final refl
+      (subst (λ (x : List ℕ). Reads m (pastOf past (rowBy 5 .kind) (rowBy 5 .rank) (wordBytes words)) (record { regs = c .regs; settings = c .settings; host = x; cells = c .cells }) rest final) (sym host-back)
+      (r (pastOf past (rowBy 5 .kind) (rowBy 5 .rank) (wordBytes words)) (omega arith))))
+
+-- ---- runs
 
 words-append : (a b : List ℕ) → Words a → Words b → Words (a ++ b)
 words-append [] b u v i = v i
@@ -312,7 +341,7 @@ one-word v h (suc i) = omega arith
 
 pub reads-runs : (cells run : List ℕ) (base m : ℕ) (past : SoFar) (c : Content) (rest : List ℕ) (final : Content)
     → m ≤ mostCells → past .rank ≤ 1 → past .end ≤ base → past .next ≤ 0 → base + length run + length cells ≤ m → Words run → Words cells → Zeros (c .cells) base
-    → ((seen : SoFar) → seen .rank ≤ 1 → seen .next ≤ 0 → Reads m seen (record { regs = c .regs; settings = c .settings; cells = sets (c .cells) base (run ++ cells) }) rest final)
+    → ((seen : SoFar) → seen .rank ≤ 1 → seen .next ≤ 0 → Reads m seen (record { regs = c .regs; settings = c .settings; host = c .host; cells = sets (c .cells) base (run ++ cells) }) rest final)
     → Reads m past c (runsFrom base run cells ++ rest) final
 unfolding runsFrom
 reads-runs [] run base m past c rest final few p e n b u w z r =
@@ -326,7 +355,7 @@ reads-runs (v ∷ cells) run base m past c rest final few p e n b u w z r =
     ∙ rw (zero-there, zero-kept (sets (c .cells) base run) (base + length run) (zeros-sets run (c .cells) base z), add-one (base + length run)) in
     rw (append-assoc (runRecord base run) (runsFrom (base + length run + 1) [] cells) rest)
     (reads-run run base m past c (runsFrom (base + length run + 1) [] cells ++ rest) final few p e n (omega arith) u (λ seen a d k.
-    reads-runs cells [] (base + length run + 1) m seen (record { regs = c .regs; settings = c .settings; cells = sets (c .cells) base run }) rest final
+    reads-runs cells [] (base + length run + 1) m seen (record { regs = c .regs; settings = c .settings; host = c .host; cells = sets (c .cells) base run }) rest final
     few a (omega arith) k (omega arith) (λ i. omega arith) (λ i. w (suc i)) (λ j h. zeros-sets run (c .cells) base z j (omega arith)) (λ later f g.
     rw (← after) (r later f g)))))
     (λ t.

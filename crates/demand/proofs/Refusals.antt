@@ -20,7 +20,7 @@ use Rattle.reader.specs.Answers.{readReply}
 use Rattle.machine.proofs.Tests.{picked}
 use Rattle.machine.specs.declared.Machine.{Machine}
 use Rattle.machine.specs.State.{badCells, badSettings}
-use Rattle.job.specs.Job.{Fate, refused, last, further, Notice, refusalFrom, refusalIn, loadedBy, loadOf, fateOf, payloadFate, kindOf, sizeOf, payloadOf, knownOf, fitsOf, inOrder, withinOf, settingsFit, endsOf, pastOf, passed, followed, afterEnd, nothingYet}
+use Rattle.job.specs.Job.{Fate, refused, last, further, Notice, refusalFrom, refusalIn, loadedBy, loadOf, fateOf, payloadFate, rowOf, kindOf, sizeOf, payloadOf, knownOf, fitsOf, inOrder, withinOf, settingsFit, endsOf, passed, followed, afterEnd, nothingYet}
 use Rattle.saver.specs.Saving.{Save, savedOf, saveOf}
 use Rattle.demand.specs.Demands.{listed, encodeSays, printSays, readSays, loadSays, saveSays}
 
@@ -54,20 +54,20 @@ passed-fine : (t : Bool) (past : _) (size : ℕ) → Fine (passed t past size)
 passed-fine true past size = tt
 passed-fine false past size = tt
 
-payload-fine : (m : ℕ) (past : _) (kind : _) (payload : List ℕ) (size : ℕ) → Fine (payloadFate m past kind payload size)
+payload-fine : (m : ℕ) (past : _) (left : List ℕ) → Fine (payloadFate m past (rowOf left) (payloadOf left) (sizeOf left))
 unfolding listed
-payload-fine m past kind payload size =
-    picked Fine (not (inOrder past kind payload)) _ _ (λ t. refl) (λ t.
-    picked Fine (not (withinOf m kind payload)) _ _ (λ t. refl) (λ t.
-    picked Fine (not (settingsFit kind payload)) _ _ (λ t. refl) (λ t. passed-fine (endsOf kind) (pastOf past kind payload) size)))
+payload-fine m past left =
+    picked Fine (not (inOrder past (rowOf left) (payloadOf left))) _ _ (λ t. refl) (λ t.
+    picked Fine (not (withinOf m (kindOf left) (payloadOf left))) _ _ (λ t. refl) (λ t.
+    picked Fine (not (settingsFit (kindOf left) (payloadOf left))) _ _ (λ t. refl) (λ t. passed-fine (endsOf (kindOf left)) _ (sizeOf left))))
 
 course-fine : (m : ℕ) (past : _) (left : List ℕ) → Fine (fateOf m past left)
 unfolding fateOf listed
 course-fine m past left =
     picked Fine (ltb (length left) 6) _ _ (λ t. refl) (λ t.
     picked Fine (not (knownOf (kindOf left))) _ _ (λ t. refl) (λ t.
-    picked Fine (not (fitsOf (kindOf left) (sizeOf left))) _ _ (λ t. refl) (λ t.
-    picked Fine (ltb (length left) (6 + sizeOf left)) _ _ (λ t. refl) (λ t. payload-fine m past (kindOf left) (payloadOf left) (sizeOf left)))))
+    picked Fine (not (fitsOf (rowOf left) (sizeOf left))) _ _ (λ t. refl) (λ t.
+    picked Fine (ltb (length left) (6 + sizeOf left)) _ _ (λ t. refl) (λ t. payload-fine m past left))))
 
 -- a job's first refusal, if it has one
 abbrev Listed : Option Notice → Type 0
@@ -94,13 +94,13 @@ in-listed : (m : ℕ) (job : List ℕ) → Listed (refusalIn m job)
 unfolding refusalIn listed
 in-listed m job = picked Listed (badCells m) _ _ (λ t. refl) (λ t. from-listed (length job) m job 0 nothingYet)
 
-by-listed : (o : Option Notice) (job cells : List ℕ) → Listed o → listed loadSays (loadedBy o job cells .said .number) ≡ true
+by-listed : (o : Option Notice) (job host cells : List ℕ) → Listed o → listed loadSays (loadedBy o job host cells .said .number) ≡ true
 unfolding listed
-by-listed none job cells h = refl
-by-listed (some said) job cells h = h
+by-listed none job host cells h = refl
+by-listed (some said) job host cells h = h
 
-pub load-said : (job cells : List ℕ) → listed loadSays (loadOf job cells .said .number) ≡ true
-load-said job cells = by-listed (refusalIn (length cells) job) job cells (in-listed (length cells) job)
+pub load-said : (job host cells : List ℕ) → listed loadSays (loadOf job host cells .said .number) ≡ true
+load-said job host cells = by-listed (refusalIn (length cells) job) job host cells (in-listed (length cells) job)
 
 pub save-said : (m : Machine) (cells room : List ℕ) → listed saveSays (saveOf m cells room .number) ≡ true
 unfolding saveOf listed

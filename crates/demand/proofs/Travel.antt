@@ -215,6 +215,10 @@ module _ (s₀ : State) (lawful₀ : Lawful s₀) (empty : s₀ .depth ≡ 0) wh
   travels [] w r = r
   travels (c ∷ cs) w r = travels cs (call c w) (calls c w r)
 
+  trace-host : {n : ℕ} {t : State} → Trace n t → t .host ≡ s₀ .host
+  trace-host start = refl
+  trace-host (step r h) = trace-host r
+
   trace-cells : {n : ℕ} {t : State} → Trace n t → length (t .cells) ≡ length (s₀ .cells)
   trace-cells start = refl
   trace-cells (step {n} {t} r h) = lengths (effectIn t) t .1 ∙ trace-cells r
@@ -256,6 +260,7 @@ module _ (s₀ : State) (lawful₀ : Lawful s₀) (empty : s₀ .depth ≡ 0) wh
         record {
           fewer = omega arith;
           sight = ap seen (r .state) ∙ ap seen (sym s);
+          host = ap (λ (x : State). x .host) (r .state) ∙ trace-host (r .trace);
           depth = ap (λ (x : State). x .depth) (r .state) ∙ d;
           taken = rw s d;
           start = λ h. ap (λ (o : Out). o .said) one ∙ at-start (w .state) (k .start h);

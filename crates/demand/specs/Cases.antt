@@ -7,7 +7,7 @@ use lib.Dec.{eqb}
 use lib.ListN.{getD, set, replicate}
 use Rattle.text.specs.Text.{bytes}
 use Rattle.line.specs.Line.{lineOf}
-use Rattle.machine.specs.State.{State}
+use Rattle.machine.specs.State.{State, freshHost}
 use Rattle.machine.specs.declared.Kind.the-variants.{Plain}
 use Rattle.call.specs.Calls.{Out, runOf}
 
@@ -72,6 +72,7 @@ stage c b = record {
   regs = set (set (replicate 256 0) 1 (b .r1)) 2 (b .r2);
   settings = record { flags = b .flags; mask = 0; mode = 3 };
   depth = 0;
+  host = freshHost;
   cells = c ∷ [];
   journal = replicate 8 0;
 }

@@ -53,15 +53,16 @@ pub record Seen : Type 0 where
 abbrev pub seen : State → Seen
 seen s = record { regs = s .regs; settings = s .settings; cells = s .cells }
 
--- the loaded job, with the journal that the host lends
-abbrev pub loaded : List ℕ → List ℕ → List ℕ → State
-loaded job cells journal = stateOf (loadOf job cells .machine) (loadOf job cells .cells) journal
+-- the job loaded with the host's words, and the journal that the host lends
+abbrev pub loaded : List ℕ → List ℕ → List ℕ → List ℕ → State
+loaded job host cells journal = stateOf (loadOf job host cells .machine) (loadOf job host cells .cells) journal
 
 -- Where a trip from s, at depth 0, has come to, with f steps forward and b back: to what f - b steps of the definition show, each of them
--- done. One step back is refused with 8 where f = b, and taken, which says 0, wherever else.
+-- done, with the host's words that s has. One step back is refused with 8 where f = b, and taken, which says 0, wherever else.
 pub record Arrived (s : State) (w : Trip) : Type 0 where
   pub fewer : w .behind ≤ w .ahead
   pub sight : seen (w .state) ≡ seen (steps kind.Plain (w .ahead - w .behind) s)
+  pub host : w .state .host ≡ s .host
   pub depth : w .state .depth ≡ w .ahead - w .behind
   pub taken : steps kind.Plain (w .ahead - w .behind) s .depth ≡ w .ahead - w .behind
   pub start : w .ahead ≡ w .behind → backOf 1 (w .state) .said ≡ plainly 8

@@ -11,7 +11,7 @@ use Rattle.effect.specs.Refusal.{refusedBy}
 
 module _ (s : State) (depth : ℕ) (journal : List ℕ) where
   abbrev other : State
-  other = stateWith (s .regs) (s .settings) depth (s .cells) journal
+  other = stateWith (s .regs) (s .settings) depth (s .host) (s .cells) journal
 
   value-blind : (v : Value) → valueOf other v ≡ valueOf s v
   value-blind (R i) = refl

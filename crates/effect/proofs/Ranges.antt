@@ -1,6 +1,6 @@
--- Every effect names registers 0 to 255 and holds 32-bit numbers, given registers, cells and settings that do.
+-- Every effect names registers 0 to 255 and holds 32-bit numbers, given registers, cells, settings and words of the host that do.
 -- Assumes nothing.
-use Prim.Native.Nat.{ℕ, _/_, _%_, _^_, _<_}
+use Prim.Native.Nat.{ℕ, _-_, _/_, _%_, _^_, _<_}
 use mathlib.Core.Bool.{cond, _||_}
 use native.Mathlib.Omega.{arith}
 use lib.Dec.{ltb, eqb}
@@ -18,7 +18,7 @@ use Rattle.effect.specs.Parts.{Write, Effect, noWrite, still, store, loa
 use Rattle.half.specs.declared.Extension.{Extension}
 use Rattle.half.specs.declared.Extension.the-variants.{Se, Ex}
 use Rattle.effect.specs.Action.{Value, R, Imm, Extended, Lower, Upper, Action, Cpswp, Ldst, Put, Split, Bz, Int, Float, Illegal, operation, floats, actionOf}
-use Rattle.machine.specs.Addresses.{flagsAddress, maskAddress, modeAddress}
+use Rattle.machine.specs.Addresses.{flagsAddress, maskAddress, modeAddress, hostAddress}
 use Rattle.effect.specs.Operands.{nextOf, operandOf, reg, valueOf, behind}
 use Rattle.effect.specs.Effect.{illegalLoad, illegalStore, effectOf}
 
@@ -40,17 +40,18 @@ unused = (omega arith, omega arith)
 either : (t : _) (x y : ℕ) → Word x → Word y → Word (cond t x y)
 either t x y p q = picked Word t x y (λ h. p) (λ h. q)
 
-module _ (s : State) (words : (i : ℕ) → Word (getD (s .regs) i 0)) (cell-words : (i : ℕ) → Word (getD (s .cells) i 0)) (settled : InRange (s .settings)) where
+module _ (s : State) (words : (i : ℕ) → Word (getD (s .regs) i 0)) (cell-words : (i : ℕ) → Word (getD (s .cells) i 0)) (given : (i : ℕ) → Word (getD (s .host) i 0)) (settled : InRange (s .settings)) where
   reg-below : (i : ℕ) → Word (reg s i)
   unfolding operandOf
   reg-below i = either (eqb i 255) (nextOf (s .regs)) (getD (s .regs) i 0) (omega arith) (words i)
 
-  behind-below : (p : ℕ) → Word (behind (s .cells) (s .settings) p)
+  behind-below : (p : ℕ) → Word (behind (s .cells) (s .settings) (s .host) p)
   unfolding behind
   behind-below p =
       either (ltb p firstSpecial) (getD (s .cells) p 0) _ (cell-words p)
       (either (eqb p flagsAddress) (s .settings .flags) _ (omega (arith, settled .flags))
-      (either (eqb p maskAddress) (s .settings .mask) (s .settings .mode) (omega (arith, settled .mask)) (omega (arith, settled .mode))))
+      (either (eqb p maskAddress) (s .settings .mask) _ (omega (arith, settled .mask))
+      (either (eqb p modeAddress) (s .settings .mode) _ (omega (arith, settled .mode)) (given (p - hostAddress)))))
 
   stays : Ranged (still s)
   stays = record { pc = omega arith; a = unused; b = unused; store = omega arith }

@@ -1,18 +1,18 @@
--- What an action does, as a value: document 01, 'One step'.
+-- What an action does, as a value: document 01, 'One step'; where LDST may load from: document 02, 2026-05.
 use Prim.Native.Nat.{ℕ, _/_, _%_}
-use mathlib.Core.Bool.{Bool, cond, _||_}
+use mathlib.Core.Bool.{Bool, cond, _&&_, _||_}
 use lib.Dec.{leb, ltb, eqb}
 use Rattle.half.specs.Half.{seOf, extended}
 use Rattle.word.specs.Word.{writtenOf}
 use Rattle.machine.specs.State.{State, flagsBound, firstSpecial}
 use Rattle.effect.specs.Parts.{Interrupt, Effect, still, _then_, writeA, writeB, gain, say, result, illegal, store, load}
 use Rattle.effect.specs.Action.{Action, Cpswp, Ldst, Put, Operate, Split, Bz, Int, Float, Illegal}
-use Rattle.machine.specs.Addresses.{maskAddress, modeAddress}
+use Rattle.machine.specs.Addresses.{maskAddress, modeAddress, hostAddress, hostLast}
 use Rattle.effect.specs.Operands.{reg, valueOf, behind}
 
--- Illegal: a load past the mode's address; above memory, a store to any address but the mask's and the mode's, or of a value too large for it.
+-- Illegal: a load past the mode's address that is not of the host's words; above memory, a store to any address but the mask's and the mode's, or of a value too large for it.
 abbrev pub illegalLoad : ℕ → Bool
-illegalLoad p = ltb modeAddress p
+illegalLoad p = ltb modeAddress p && (ltb p hostAddress || ltb hostLast p)
 
 abbrev pub illegalStore : ℕ → ℕ → Bool
 illegalStore p v =
@@ -27,7 +27,7 @@ effectOf (Cpswp n m l) s = still s then writeB l (reg s n) then writeA n (reg s 
 -- 1: store Rn at Rm, then load Rn from Rl, or neither where one of them is illegal
 effectOf (Ldst n m l) s =
     cond (illegalLoad (reg s l) || illegalStore (reg s m) (reg s n)) (still s then illegal)
-    (still s then store (reg s m) (reg s n) then load (reg s l) n (behind (s .cells) (s .settings) (reg s l)))
+    (still s then store (reg s m) (reg s n) then load (reg s l) n (behind (s .cells) (s .settings) (s .host) (reg s l)))
 -- 3 to 7
 effectOf (Put n v) s = still s then writeA n (valueOf s v)
 -- 16 to 53: the operation also sees Rn, which division by zero keeps, and the flags

@@ -1,5 +1,5 @@
--- What an instruction reads: document 01, 'One step' and 'Addresses'.
-use Prim.Native.Nat.{ℕ, _+_, _*_, _/_, _%_}
+-- What an instruction reads: document 01, 'One step' and 'Addresses'; the host's words: document 02, 2026-05.
+use Prim.Native.Nat.{ℕ, _+_, _-_, _*_, _/_, _%_}
 use mathlib.Core.Bool.{cond}
 use mathlib.Core.List.{List}
 use lib.Dec.{ltb, eqb}
@@ -7,7 +7,7 @@ use lib.ListN.{getD}
 use Rattle.half.specs.Half.{extended}
 use Rattle.machine.specs.declared.Settings.{Settings}
 use Rattle.machine.specs.State.{State, firstSpecial, pcOf}
-use Rattle.machine.specs.Addresses.{flagsAddress, maskAddress}
+use Rattle.machine.specs.Addresses.{flagsAddress, maskAddress, modeAddress, hostAddress}
 use Rattle.effect.specs.Action.{Value, R, Imm, Extended, Lower, Upper}
 
 -- the PC that an instruction sees: one past its own cell, in 32 bits
@@ -30,9 +30,10 @@ valueOf s (Extended e x) = extended e x
 valueOf s (Lower i x) = reg s i / 65536 * 65536 + x
 valueOf s (Upper i x) = x * 65536 + reg s i % 65536
 
--- the value at a load pointer: a cell, the flags, the mask or the mode
-unfoldable pub behind : List ℕ → Settings → ℕ → ℕ
-behind cells s p =
+-- the value at a load pointer: a cell, the flags, the mask, the mode or one of the host's words
+unfoldable pub behind : List ℕ → Settings → List ℕ → ℕ → ℕ
+behind cells s host p =
     cond (ltb p firstSpecial) (getD cells p 0)
     (cond (eqb p flagsAddress) (s .flags)
-    (cond (eqb p maskAddress) (s .mask) (s .mode)))
+    (cond (eqb p maskAddress) (s .mask)
+    (cond (eqb p modeAddress) (s .mode) (getD host (p - hostAddress) 0))))

@@ -59,7 +59,7 @@ fixed-first kind budget most depth total limit guard cells₀ journal₀ e deep 
 }
 
 -- what each step moves
-pub record Running (kind : Kind) (budget total depth : ℕ) (regs₀ : List ℕ) (s₀ : ℕ) (cells₀ journal₀ cells journal regs : List ℕ) (s at count told : ℕ) : Type 0 where
+pub record Running (kind : Kind) (budget total depth : ℕ) (host regs₀ : List ℕ) (s₀ : ℕ) (cells₀ journal₀ cells journal regs : List ℕ) (s at count told : ℕ) : Type 0 where
   pub few : count ≤ total
   pub place : at ≡ startOf (depth + (total - count))
   pub same-cells : length cells ≡ length cells₀
@@ -67,7 +67,7 @@ pub record Running (kind : Kind) (budget total depth : ℕ) (regs₀ : List ℕ)
   pub long : length regs ≡ 256
   pub settled : InRange (unpackedOf s)
   pub quiet : told ≡ 0
-  pub rest : resumeOf kind (budget - (total - count)) (total - count) regs s (depth + (total - count)) cells journal ≡ runFrom kind budget 0 (heldOf regs₀ s₀ depth cells₀ journal₀)
+  pub rest : resumeOf kind (budget - (total - count)) (total - count) regs s (depth + (total - count)) host cells journal ≡ runFrom kind budget 0 (heldOf regs₀ s₀ depth host cells₀ journal₀)
 
 same-capacity : (j k : List ℕ) → length j ≡ length k → capacityOf j ≡ capacityOf k
 unfolding capacityOf
@@ -82,12 +82,12 @@ module _ (kind : Kind) (m : Machine) {s : ℕ} (e : s ≡ packedOf (m .settings)
   pub settled-first : InRange (unpackedOf s)
   settled-first = rw (e, unpacked-packed (m .settings) range) range
 
-  pub from-machine : (budget : ℕ) (cells journal : List ℕ) (o : Out) → o ≡ runFrom kind budget 0 (heldOf (m .regs) s (m .depth) cells journal)
+  pub from-machine : (budget : ℕ) (cells journal : List ℕ) (o : Out) → o ≡ runFrom kind budget 0 (heldOf (m .regs) s (m .depth) (m .host) cells journal)
       → o ≡ runFrom kind budget 0 (stateOf m cells journal)
   from-machine budget cells journal o h = rw (e, unpacked-packed (m .settings) range) at h
 
-module _ {kind : Kind} {budget total depth : ℕ} {regs₀ : List ℕ} {s₀ : ℕ} {cells₀ journal₀ : List ℕ} where
-  pub set-out : length regs₀ ≡ 256 → InRange (unpackedOf s₀) → Running kind budget total depth regs₀ s₀ cells₀ journal₀ cells₀ journal₀ regs₀ s₀ (8 * depth) total 0
+module _ {kind : Kind} {budget total depth : ℕ} {host regs₀ : List ℕ} {s₀ : ℕ} {cells₀ journal₀ : List ℕ} where
+  pub set-out : length regs₀ ≡ 256 → InRange (unpackedOf s₀) → Running kind budget total depth host regs₀ s₀ cells₀ journal₀ cells₀ journal₀ regs₀ s₀ (8 * depth) total 0
   unfolding resumeOf
   set-out long settled =
       let z : total - total ≡ 0 = omega arith in
@@ -103,7 +103,7 @@ module _ {kind : Kind} {budget total depth : ℕ} {regs₀ : List ℕ} {s₀ : �
       }
 
   module _ {limit guard : ℕ} {cells journal regs : List ℕ} {s at count told : ℕ} (fixed : Fixed kind budget total depth limit guard cells₀ journal₀)
-      (u : Running kind budget total depth regs₀ s₀ cells₀ journal₀ cells journal regs s at count told) where
+      (u : Running kind budget total depth host regs₀ s₀ cells₀ journal₀ cells journal regs s at count told) where
     abbrev k : ℕ
     k = total - count
 
@@ -122,7 +122,7 @@ module _ {kind : Kind} {budget total depth : ℕ} {regs₀ : List ℕ} {s₀ : �
     in-cells = omega (arith, same-code, code-within kind (length cells))
 
     -- PC is outside the code
-    pub off-code : (o : Out) → o ≡ resumeOf kind (budget - k) k regs s (depth + k) cells journal → o ≡ runFrom kind budget 0 (heldOf regs₀ s₀ depth cells₀ journal₀)
+    pub off-code : (o : Out) → o ≡ resumeOf kind (budget - k) k regs s (depth + k) host cells journal → o ≡ runFrom kind budget 0 (heldOf regs₀ s₀ depth host cells₀ journal₀)
     off-code o h = h ∙ u .rest
 
     -- the count is used up: the budget is done, or the journal is full
@@ -134,7 +134,7 @@ module _ {kind : Kind} {budget total depth : ℕ} {regs₀ : List ℕ} {s₀ : �
           go (inl e) = inl e
           go (inr e) = inr (rw (same-capacity journal journal₀ (u .same-journal)) (omega arith))
 
-      pub all-done : (o : Out) → o ≡ resumeOf kind (budget - total) total regs s (depth + total) cells journal → o ≡ runFrom kind budget 0 (heldOf regs₀ s₀ depth cells₀ journal₀)
+      pub all-done : (o : Out) → o ≡ resumeOf kind (budget - total) total regs s (depth + total) host cells journal → o ≡ runFrom kind budget 0 (heldOf regs₀ s₀ depth host cells₀ journal₀)
       all-done o h = let z : total - count ≡ total = omega (arith, u .few) in h ∙ (rw z at (u .rest))
 
     -- one step more
@@ -149,7 +149,7 @@ module _ {kind : Kind} {budget total depth : ℕ} {regs₀ : List ℕ} {s₀ : �
       on = omega (arith, in-cells, u .same-cells, fixed .few-cells)
 
       abbrev held : State
-      held = heldOf regs s (depth + k) cells journal
+      held = heldOf regs s (depth + k) host cells journal
 
       in-code : pcOf regs < codeOf kind (length cells)
       in-code = rw (← same-code) inside
@@ -157,23 +157,23 @@ module _ {kind : Kind} {budget total depth : ℕ} {regs₀ : List ℕ} {s₀ : �
       space : depth + k < capacityOf journal
       space = rw (same-capacity journal journal₀ (u .same-journal)) (omega (arith, u .few, fixed .room))
 
-      to-whole : runFrom kind (suc n) k held ≡ runFrom kind budget 0 (heldOf regs₀ s₀ depth cells₀ journal₀)
-      to-whole = rw (← one-more, ← not-ended kind (budget - k) k regs s (depth + k) cells journal on) (u .rest)
+      to-whole : runFrom kind (suc n) k held ≡ runFrom kind budget 0 (heldOf regs₀ s₀ depth host cells₀ journal₀)
+      to-whole = rw (← one-more, ← not-ended kind (budget - k) k regs s (depth + k) host cells journal on) (u .rest)
 
       -- the cell stores into the code
-      pub barred : storesBelow guard (length cells) regs cell ≡ true → (o : Out) → o ≡ stopAt (plainly 61) k held → o ≡ runFrom kind budget 0 (heldOf regs₀ s₀ depth cells₀ journal₀)
-      barred h o e = e ∙ refused-run kind n k held 61 (overwrites kind regs cells journal s (depth + k) at cell (u .settled) (u .long) on in-code fetched space (u .place) (rw (fixed .guarded) at h)) ∙ to-whole
+      pub barred : storesBelow guard (length cells) regs cell ≡ true → (o : Out) → o ≡ stopAt (plainly 61) k held → o ≡ runFrom kind budget 0 (heldOf regs₀ s₀ depth host cells₀ journal₀)
+      barred h o e = e ∙ refused-run kind n k held 61 (overwrites kind regs host cells journal s (depth + k) at cell (u .settled) (u .long) on in-code fetched space (u .place) (rw (fixed .guarded) at h)) ∙ to-whole
 
       module _ {regs' cells' part' : List ℕ} {s' told' : ℕ} (free : storesBelow guard (length cells) regs cell ≡ false)
-          (l : length regs ≡ 256 → left regs' cells' part' s' told' ≡ leftOf told (actionOf (decodeOf cell)) (before regs s cells (midOf at (at + 8 - at) journal))) where
+          (l : length regs ≡ 256 → left regs' cells' part' s' told' ≡ leftOf told (actionOf (decodeOf cell)) (before regs s host cells (midOf at (at + 8 - at) journal))) where
         abbrev journal' : List ℕ
         journal' = putMid at (at + 8 - at) journal part'
 
         goes : Goes kind held cell journal' (left regs' cells' part' s' told')
-        goes = stepped kind regs cells journal s (depth + k) at cell (u .settled) (u .long) on in-code fetched space (u .place) (rw (fixed .guarded) at free) (left regs' cells' part' s' told') (rw (u .quiet) at (l (u .long)))
+        goes = stepped kind regs host cells journal s (depth + k) at cell (u .settled) (u .long) on in-code fetched space (u .place) (rw (fixed .guarded) at free) (left regs' cells' part' s' told') (rw (u .quiet) at (l (u .long)))
 
         pub again : stopping told' s' ≡ false → length cells' ≡ length cells → length journal' ≡ length journal
-            → Running kind budget total depth regs₀ s₀ cells₀ journal₀ cells' journal' regs' s' (at + 8) (count - 1) 0
+            → Running kind budget total depth host regs₀ s₀ cells₀ journal₀ cells' journal' regs' s' (at + 8) (count - 1) 0
         again h c j =
             let z : total - (count - 1) ≡ k + 1 = omega (arith, u .few) in
             let y : budget - (k + 1) ≡ n = omega arith in
@@ -186,10 +186,10 @@ module _ {kind : Kind} {budget total depth : ℕ} {regs₀ : List ℕ} {s₀ : �
               long = goes .long;
               settled = goes .settled;
               quiet = refl;
-              rest = rw (z, y, x) (goes-on kind n k told' regs' s' cell (depth + k) cells' journal' held (goes .step) h ∙ to-whole);
+              rest = rw (z, y, x) (goes-on kind n k told' regs' s' cell (depth + k) host cells' journal' held (goes .step) h ∙ to-whole);
             }
 
-        pub halted : (o : Out) → ((rest : ℕ → State → Out) → o ≡ goOnBy rest k (movedBy told' regs' s' cell (depth + k) cells' journal'))
-            → o ≡ runFrom kind budget 0 (heldOf regs₀ s₀ depth cells₀ journal₀)
+        pub halted : (o : Out) → ((rest : ℕ → State → Out) → o ≡ goOnBy rest k (movedBy told' regs' s' cell (depth + k) host cells' journal'))
+            → o ≡ runFrom kind budget 0 (heldOf regs₀ s₀ depth host cells₀ journal₀)
         unfolding runFrom
         halted o h = h (runFrom kind n) ∙ rw (goes .step) to-whole

@@ -23,35 +23,35 @@ use Rattle.carried.specs.Left.{toldInt, toldFault}
 use Rattle.forward.specs.Inner.{heldOf, trapped, stopping, movedBy, endsBy, finalOf, resumeOf, numberOf}
 
 -- a step that does not stop the run
-module _ (kind : Kind) (n k told : ℕ) (regs : List ℕ) (s cell depth : ℕ) (cells journal : List ℕ) (st : State)
-    (step : movedBy told regs s cell depth cells journal ≡ stepOf kind st) where
-  pub goes-on : stopping told s ≡ false → resumeOf kind n (k + 1) regs s (depth + 1) cells journal ≡ runFrom kind (suc n) k st
+module _ (kind : Kind) (n k told : ℕ) (regs : List ℕ) (s cell depth : ℕ) (host cells journal : List ℕ) (st : State)
+    (step : movedBy told regs s cell depth host cells journal ≡ stepOf kind st) where
+  pub goes-on : stopping told s ≡ false → resumeOf kind n (k + 1) regs s (depth + 1) host cells journal ≡ runFrom kind (suc n) k st
   unfolding movedBy resumeOf runFrom
   goes-on h =
       let low : told < toldInt = leb-false toldInt told (or-left (leb toldInt told) (trapped told s) h) in
       rw (← step, lt-ltb told toldFault (omega arith), h, lt-ltb 0 (k + 1) (omega arith)) (go (endedOf regs))
     where
       go : (t : Bool)
-          → cond t (stopAt (plainly 1) (k + 1) (stateWith regs (settledOf t (unpackedOf s)) (depth + 1) cells journal)) (runFrom kind n (k + 1) (heldOf regs s (depth + 1) cells journal))
-          ≡ goOn (runFrom kind n) (cond t (stopped (plainly 1)) going) k (stateWith regs (settledOf t (unpackedOf s)) (depth + 1) cells journal)
+          → cond t (stopAt (plainly 1) (k + 1) (stateWith regs (settledOf t (unpackedOf s)) (depth + 1) host cells journal)) (runFrom kind n (k + 1) (heldOf regs s (depth + 1) host cells journal))
+          ≡ goOn (runFrom kind n) (cond t (stopped (plainly 1)) going) k (stateWith regs (settledOf t (unpackedOf s)) (depth + 1) host cells journal)
       go true = refl
       go false = refl
 
 -- a run that has not ended is the definition's
-pub not-ended : (kind : Kind) (n k : ℕ) (regs : List ℕ) (s depth : ℕ) (cells journal : List ℕ) → pcOf regs < firstSpecial
-    → resumeOf kind n k regs s depth cells journal ≡ runFrom kind n k (heldOf regs s depth cells journal)
+pub not-ended : (kind : Kind) (n k : ℕ) (regs : List ℕ) (s depth : ℕ) (host cells journal : List ℕ) → pcOf regs < firstSpecial
+    → resumeOf kind n k regs s depth host cells journal ≡ runFrom kind n k (heldOf regs s depth host cells journal)
 unfolding resumeOf
-not-ended kind n k regs s depth cells journal h = rw (lt-leb firstSpecial (pcOf regs) h, and-false (ltb 0 k))
+not-ended kind n k regs s depth host cells journal h = rw (lt-leb firstSpecial (pcOf regs) h, and-false (ltb 0 k))
 
 pub refused-run : (kind : Kind) (n k : ℕ) (st : State) (j : ℕ) → refusalOf kind st ≡ some j → stopAt (plainly j) k st ≡ runFrom kind (suc n) k st
 unfolding runFrom
 refused-run kind n k st j h = rw (← refused-with kind st j h)
 
 -- the loop is over: PC is outside the code, the budget is done, or the journal is full
-module _ (kind : Kind) (regs cells journal : List ℕ) (s depth done budget : ℕ) (le : done ≤ budget)
+module _ (kind : Kind) (regs host cells journal : List ℕ) (s depth done budget : ℕ) (le : done ≤ budget)
     (over : (codeOf kind (length cells) ≤ pcOf regs) ⊎ ((done ≡ budget) ⊎ (capacityOf journal ≤ depth))) where
   abbrev held : State
-  held = heldOf regs s depth cells journal
+  held = heldOf regs s depth host cells journal
 
   abbrev limit : ℕ
   limit = codeOf kind (length cells)
@@ -81,14 +81,14 @@ module _ (kind : Kind) (regs cells journal : List ℕ) (s depth done budget : �
       let z : budget - done ≡ suc (budget - done - 1) = omega arith in
       rw z (refuses more (endedOf regs) (leb limit (pcOf regs)) refl refl (budget - done - 1))
 
-  pub finishes : stopAt (plainly (numberOf kind done budget limit (pcOf regs))) done (finalOf done regs s depth cells journal)
-      ≡ resumeOf kind (budget - done) done regs s depth cells journal
+  pub finishes : stopAt (plainly (numberOf kind done budget limit (pcOf regs))) done (finalOf done regs s depth host cells journal)
+      ≡ resumeOf kind (budget - done) done regs s depth host cells journal
   unfolding resumeOf
   finishes = go (endsBy done (pcOf regs))
     where
       go : (t : Bool)
           → stopAt (plainly (cond t 1 (cond (eqb done budget) 0 (cond (endedOf regs) 1 (cond (leb limit (pcOf regs)) (outside kind) 7))))) done
-          (stateWith regs (settledOf t (unpackedOf s)) depth cells journal)
-          ≡ cond t (stopAt (plainly 1) done (stateWith regs (settledOf t (unpackedOf s)) depth cells journal)) (runFrom kind (budget - done) done held)
+          (stateWith regs (settledOf t (unpackedOf s)) depth host cells journal)
+          ≡ cond t (stopAt (plainly 1) done (stateWith regs (settledOf t (unpackedOf s)) depth host cells journal)) (runFrom kind (budget - done) done held)
       go true = refl
       go false = rests (eqb done budget) refl

@@ -42,7 +42,7 @@ use Rattle.forward.proofs.Told.{plain, own-stop}
 
 -- a step, from what it left, with the journal that it left
 pub record Goes (kind : Kind) (st : State) (cell : ℕ) (journal : List ℕ) (l : Left) : Type 0 where
-  pub step : movedBy (l .told) (l .regs) (l .settings) cell (st .depth) (l .cells) journal ≡ stepOf kind st
+  pub step : movedBy (l .told) (l .regs) (l .settings) cell (st .depth) (st .host) (l .cells) journal ≡ stepOf kind st
   pub settled : InRange (unpackedOf (l .settings))
   pub long : length (l .regs) ≡ 256
 
@@ -95,11 +95,11 @@ module _ (st : State) (cell : ℕ) (long : length (st .regs) ≡ 256) (range : I
         low = rw (p .answer, raised-told) (omega (arith, p .raised));
       }
 
-module _ (kind : Kind) (regs cells journal : List ℕ) (s depth at cell : ℕ) (settled : InRange (unpackedOf s)) (long : length regs ≡ 256)
+module _ (kind : Kind) (regs host cells journal : List ℕ) (s depth at cell : ℕ) (settled : InRange (unpackedOf s)) (long : length regs ≡ 256)
     (on : pcOf regs < firstSpecial) (within : pcOf regs < codeOf kind (length cells)) (fetched : cell ≡ getD cells (pcOf regs) 0)
     (space : depth < capacityOf journal) (place : at ≡ startOf depth) where
   abbrev held : State
-  held = heldOf regs s depth cells journal
+  held = heldOf regs s depth host cells journal
 
   abbrev action : Action
   action = actionOf (decodeOf cell)
@@ -129,7 +129,7 @@ module _ (kind : Kind) (regs cells journal : List ℕ) (s depth at cell : ℕ) (
     refusal : refusalOf kind held ≡ refusedBy action held
     refusal = looked ∙ passes held cell kind free
 
-    done : refusedBy action held ≡ none → Stepped (doneBy 0 (effectOf action held) (before regs s cells part))
+    done : refusedBy action held ≡ none → Stepped (doneBy 0 (effectOf action held) (before regs s host cells part))
     unfolding movedBy settingsAfter
     done n =
         let e = effectOf action held in
@@ -149,10 +149,10 @@ module _ (kind : Kind) (regs cells journal : List ℕ) (s depth at cell : ℕ) (
       long = long;
     }
 
-    became : (o : Option ℕ) → refusedBy action held ≡ o → Stepped (leftOf 0 action (before regs s cells part))
+    became : (o : Option ℕ) → refusedBy action held ≡ o → Stepped (leftOf 0 action (before regs s host cells part))
     unfolding leftOf becameOf
     became none n = rw (refusal-blind held 0 part action, effect-blind held 0 part action, n) (done n)
     became (some k) n = rw (refusal-blind held 0 part action, n) (refused-at k n (own-stop held action k n))
 
-    pub stepped : (l : Left) → l ≡ leftOf 0 action (before regs s cells part) → Stepped l
+    pub stepped : (l : Left) → l ≡ leftOf 0 action (before regs s host cells part) → Stepped l
     stepped l e = rw e (became (refusedBy action held) refl)

@@ -72,7 +72,7 @@ module _ (s : State) where
   plain-by (Cpswp n m l) q = record { answer = refl; raised = omega arith }
   plain-by (Ldst n m l) q =
       picked Plain (illegalLoad (reg s l) || illegalStore (reg s m) (reg s n)) _ _ (λ t. record { answer = refl; raised = omega arith }) (λ t.
-      loaded (reg s l) n (behind (s .cells) (s .settings) (reg s l)) (store (reg s m) (reg s n) (still s)) (stored (reg s m) (reg s n)))
+      loaded (reg s l) n (behind (s .cells) (s .settings) (s .host) (reg s l)) (store (reg s m) (reg s n) (still s)) (stored (reg s m) (reg s n)))
   plain-by (Put n v) q = record { answer = refl; raised = omega arith }
   plain-by (Operate op n x y) q = record { answer = refl; raised = omega (arith, raised-below op (valueOf s x) (valueOf s y) (reg s n) (s .settings .flags)) }
   plain-by (Split x n m l) q = record { answer = refl; raised = omega arith }

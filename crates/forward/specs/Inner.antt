@@ -1,4 +1,5 @@
--- What only the contracts of private functions cite: a step from what it told and left, and a run whose flag 256 is still to be set.
+-- What only the contracts of private functions cite: what a run comes to, a step from what it told and left, and a run whose flag 256 is still to be
+-- set.
 use Prim.Native.Nat.{ℕ, _+_}
 use mathlib.Core.Bool.{Bool, cond, not, _&&_, _||_}
 use mathlib.Core.List.{List}
@@ -7,17 +8,22 @@ use lib.Dec.{leb, ltb, eqb}
 use lib.ListN.{getD}
 use Rattle.cell.specs.Cell.{nOf, immOf}
 use Rattle.machine.specs.State.{State, stateWith, firstSpecial, pcOf}
-use Rattle.machine.specs.Stops.{Said, plainly, interrupted}
+use Rattle.machine.specs.Stops.{Said, plainly, interrupted, saidOf}
 use Rattle.machine.specs.declared.Kind.{Kind}
 use Rattle.packed.specs.Packed.{unpackedOf}
 use Rattle.journal.specs.Journal.{endedOf, settledOf}
 use Rattle.step.specs.Step.{outside, Course, going, stopped, refused, Moved}
 use Rattle.call.specs.Calls.{Out, stopAt, goOn, runFrom}
 use Rattle.carried.specs.Left.{toldInt, toldFault, toldFloat}
+use Rattle.forward.specs.declared.after.Upshot.{Upshot}
 
 -- the state that the code holds
-abbrev pub heldOf : List ℕ → ℕ → ℕ → List ℕ → List ℕ → State
-heldOf regs s depth cells journal = stateWith regs (unpackedOf s) depth cells journal
+abbrev pub heldOf : List ℕ → ℕ → ℕ → List ℕ → List ℕ → List ℕ → State
+heldOf regs s depth host cells journal = stateWith regs (unpackedOf s) depth host cells journal
+
+-- what a run comes to, with the registers, cells and journal that it left and the host's words
+abbrev pub outBy : Upshot → List ℕ → List ℕ → List ℕ → List ℕ → Out
+outBy u regs host cells journal = record { state = stateWith regs (u .settings) (u .depth) host cells journal; said = saidOf (u .stop); count = u .count }
 
 -- the mask has a flag that was told
 abbrev pub trapped : ℕ → ℕ → Bool
@@ -42,11 +48,11 @@ abbrev pub courseBy : ℕ → List ℕ → ℕ → ℕ → Course
 courseBy told regs s cell = cond (stopping told s) (stopped (stopAfter told regs cell)) (cond (endedOf regs) (stopped (plainly 1)) going)
 
 -- a step, from what it told and left
-unfoldable pub movedBy : ℕ → List ℕ → ℕ → ℕ → ℕ → List ℕ → List ℕ → Moved
-movedBy told regs s cell depth cells journal =
+unfoldable pub movedBy : ℕ → List ℕ → ℕ → ℕ → ℕ → List ℕ → List ℕ → List ℕ → Moved
+movedBy told regs s cell depth host cells journal =
     cond (ltb told toldFault)
-    (record { state = stateWith regs (settledOf (endedOf regs) (unpackedOf s)) (depth + 1) cells journal; course = courseBy told regs s cell })
-    (record { state = heldOf regs s depth cells journal; course = refused (refusalBy told) })
+    (record { state = stateWith regs (settledOf (endedOf regs) (unpackedOf s)) (depth + 1) host cells journal; course = courseBy told regs s cell })
+    (record { state = heldOf regs s depth host cells journal; course = refused (refusalBy told) })
 
 -- a run with k steps done, by the step after them
 abbrev pub goOnBy : (ℕ → State → Out) → ℕ → Moved → Out
@@ -56,13 +62,13 @@ goOnBy rest k m = goOn rest (m .course) k (m .state)
 abbrev pub endsBy : ℕ → ℕ → Bool
 endsBy done pc = ltb 0 done && leb firstSpecial pc
 
-abbrev pub finalOf : ℕ → List ℕ → ℕ → ℕ → List ℕ → List ℕ → State
-finalOf done regs s depth cells journal = stateWith regs (settledOf (endsBy done (pcOf regs)) (unpackedOf s)) depth cells journal
+abbrev pub finalOf : ℕ → List ℕ → ℕ → ℕ → List ℕ → List ℕ → List ℕ → State
+finalOf done regs s depth host cells journal = stateWith regs (settledOf (endsBy done (pcOf regs)) (unpackedOf s)) depth host cells journal
 
 -- k steps are done: the run has ended with the last of them, or n steps more
-unfoldable pub resumeOf : Kind → ℕ → ℕ → List ℕ → ℕ → ℕ → List ℕ → List ℕ → Out
-resumeOf kind n k regs s depth cells journal =
-    cond (endsBy k (pcOf regs)) (stopAt (plainly 1) k (finalOf k regs s depth cells journal)) (runFrom kind n k (heldOf regs s depth cells journal))
+unfoldable pub resumeOf : Kind → ℕ → ℕ → List ℕ → ℕ → ℕ → List ℕ → List ℕ → List ℕ → Out
+resumeOf kind n k regs s depth host cells journal =
+    cond (endsBy k (pcOf regs)) (stopAt (plainly 1) k (finalOf k regs s depth host cells journal)) (runFrom kind n k (heldOf regs s depth host cells journal))
 
 -- the stop's number of a run that no step stopped
 abbrev pub numberOf : Kind → ℕ → ℕ → ℕ → ℕ → ℕ

@@ -1,4 +1,4 @@
-// What a run leaves beside cells and journal: the stops are told apart once, after the loop, and flag 256 is set there.
+// What a run leaves beside registers, cells and journal: the stops are told apart once, after the loop, and flag 256 is set there.
 ghost use mathlib.Core.Path.{_≡_};
 ghost use mathlib.Core.Bool.{true};
 ghost use mathlib.Core.List.{List};
@@ -11,19 +11,24 @@ ghost use Rattle.packed.specs.Packed.{unpackedOf};
 ghost use Rattle.journal.specs.Journal.{settledOf};
 ghost use Rattle.step.specs.Step.{codeOf, outside};
 ghost use Rattle.call.specs.Calls.{Out, stopAt};
-ghost use Rattle.call.specs.Answers.{outOf};
-ghost use Rattle.forward.specs.Inner.{heldOf, stopping, refusalBy, stopAfter, movedBy, goOnBy, resumeOf, numberOf};
-use call::Ran;
+ghost use Rattle.forward.specs.Inner.{outBy, heldOf, stopping, refusalBy, stopAfter, movedBy, goOnBy, resumeOf, numberOf};
 use carried::Told;
 use cell::imm_of;
 use cell::n_of;
 use machine::Address;
 use machine::Kind;
-use machine::Machine;
 use machine::Settings;
 use machine::Stop;
 use packed::unpack;
 use word::Flag;
+
+// What a run comes to: all that it leaves but the registers, which it was lent, and the host's words, which are as they were.
+pub(crate) struct Upshot {
+    pub settings: Settings,
+    pub depth: u32,
+    pub stop: Stop,
+    pub count: u64,
+}
 
 // Whether a step that told something stops the run.
 pub(crate) fn stops(s: u32, told: u32) -> bool
@@ -82,37 +87,29 @@ fn after(regs: &[u32; 256], told: u32, cell: u32) -> Stop
 }
 
 // What a run leaves whose next step is refused.
-pub(crate) fn refused(regs: &[u32; 256], s: u32, depth: u32, done: u32, stop: Stop) -> Ran
+pub(crate) fn refused(s: u32, depth: u32, done: u32, stop: Stop) -> Upshot
     requires { ⌜ depth + done < 65536 ⌝ }
-    ensures { λ r. ⌜ ((cells journal : List ℕ) → outOf r cells journal ≡ stopAt (saidOf stop) done (heldOf (now (regs .entry)) s (depth + done) cells journal)) ⌝ }
+    ensures { λ r. ⌜ ((regs host cells journal : List ℕ) → outBy r regs host cells journal ≡ stopAt (saidOf stop) done (heldOf regs s (depth + done) host cells journal)) ⌝ }
 {
-    let machine = Machine {
-        regs: *regs,
+    Upshot {
         settings: unpack(s),
         depth: depth + done,
-    };
-    Ran {
-        machine,
         stop,
         count: done as u64,
     }
 }
 
 // What a run leaves that a step stopped, done or refused.
-pub(crate) fn halt(regs: &[u32; 256], s: u32, depth: u32, done: u32, told: u32, cell: u32) -> Ran
+pub(crate) fn halt(regs: &[u32; 256], s: u32, depth: u32, done: u32, told: u32, cell: u32) -> Upshot
     requires { ⌜ (depth + done < 65536) × (stopping told s ≡ true) ⌝ }
-    ensures { λ r. ⌜ ((rest : ℕ → State → Out) (cells journal : List ℕ) → outOf r cells journal ≡ goOnBy rest done (movedBy told (now (regs .entry)) s cell (depth + done) cells journal)) ⌝ }
+    ensures { λ r. ⌜ ((rest : ℕ → State → Out) (host cells journal : List ℕ) → outBy r (now (regs .entry)) host cells journal ≡ goOnBy rest done (movedBy told (now (regs .entry)) s cell (depth + done) host cells journal)) ⌝ }
 {
     if Told::FAULT <= told {
-        return refused(regs, s, depth, done, refusal(told));
+        return refused(s, depth, done, refusal(told));
     }
-    let machine = Machine {
-        regs: *regs,
+    Upshot {
         settings: settled(s, Address::FLAGS <= regs[255]),
         depth: depth + done + 1,
-    };
-    Ran {
-        machine,
         stop: after(regs, told, cell),
         count: done as u64 + 1,
     }
@@ -156,20 +153,16 @@ pub(crate) fn finish(
     depth: u32,
     done: u32,
     budget: u64,
-) -> Ran
+) -> Upshot
     requires { ⌜ (depth + done ≤ 65536) × (done ≤ budget) ⌝ }
-    ensures { λ r. ⌜ ((cells journal : List ℕ) → limit ≡ codeOf kind (length cells)
+    ensures { λ r. ⌜ ((host cells journal : List ℕ) → limit ≡ codeOf kind (length cells)
         → (limit ≤ pcOf (now (regs .entry))) ⊎ ((done ≡ budget) ⊎ (capacityOf journal ≤ depth + done))
-        → outOf r cells journal ≡ resumeOf kind (budget - done) done (now (regs .entry)) s (depth + done) cells journal) ⌝ }
+        → outBy r (now (regs .entry)) host cells journal ≡ resumeOf kind (budget - done) done (now (regs .entry)) s (depth + done) host cells journal) ⌝ }
 {
     let pc = regs[255];
-    let machine = Machine {
-        regs: *regs,
+    Upshot {
         settings: settled(s, (0 < done) & (Address::FLAGS <= pc)),
         depth: depth + done,
-    };
-    Ran {
-        machine,
         stop: stop_of(pc, kind, limit, done as u64, budget),
         count: done as u64,
     }

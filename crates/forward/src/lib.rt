@@ -5,11 +5,14 @@ ghost use Prim.Native.Nat.{_≤_};
 ghost use lib.ListN.{length};
 ghost use Rattle.machine.specs.State.{stateOf, capacityOf, mostCells, InRange};
 ghost use Rattle.machine.specs.declared.Kind.the-variants.{Plain, Profile};
+ghost use Rattle.packed.specs.Packed.{unpackedOf};
 ghost use Rattle.call.specs.Calls.{runFrom, runOf};
 ghost use Rattle.call.specs.Answers.{outOf};
+ghost use Rattle.forward.specs.Inner.{outBy, heldOf};
 
 mod after;
 
+use after::Upshot;
 use after::finish;
 use after::halt;
 use after::refused;
@@ -30,7 +33,60 @@ use machine::capacity;
 use machine::index_of;
 use packed::pack;
 
-// As many steps as the budget says, or up to a stop. Flag 256 is set once, at the end.
+// As many steps as the budget says, or up to a stop, over lent registers and settings that are one word. Flag 256 is set once, at the end.
+fn run_over(
+    regs: &mut [u32; 256],
+    host: &[u32; 5],
+    cells: &mut [u32],
+    journal: &mut [u32],
+    kind: Kind,
+    settings: u32,
+    depth: u32,
+    budget: u64,
+    most: u32,
+) -> Upshot
+    requires { ⌜ (length (now regs) ≡ 256) × InRange (unpackedOf settings) × (depth ≤ most) × (most ≡ capacityOf (now journal)) × (length (now cells) ≤ mostCells) ⌝ }
+    ensures { λ r. ⌜ outBy r (now (regs .exit)) (now (host .entry)) (now (cells .exit)) (now (journal .exit))
+        ≡ runFrom kind budget 0 (heldOf (now (regs .entry)) settings depth (now (host .entry)) (now (cells .entry)) (now (journal .entry))) ⌝ }
+{
+    let mut s = settings;
+    let limit = limit_of(kind, cells.len());
+    let guard = guard_of(kind);
+    let total = lesser(budget, most - depth);
+    let mut at = Entry::WORDS * (depth as usize);
+    let mut left = total;
+    let mut told = 0;
+    while 0 < left {
+        let p = index_of(regs[255]);
+        if limit <= p {
+            return finish(regs, kind, limit, s, depth, total - left, budget);
+        }
+        let cell = cells[p];
+        if writes_code(regs, cells.len(), cell, guard) {
+            return refused(s, depth, total - left, Stop::Overwrite);
+        }
+        s = carry_out(
+            &mut journal[at..at + Entry::WORDS],
+            regs,
+            cells,
+            host,
+            s,
+            cell,
+            &mut told,
+        );
+        if 0 < told {
+            if stops(s, told) {
+                return halt(regs, s, depth, total - left, told, cell);
+            }
+            told = 0;
+        }
+        at = at + Entry::WORDS;
+        left = left - 1;
+    }
+    finish(regs, kind, limit, s, depth, total, budget)
+}
+
+// A run that can begin: the host's words are lent to it and stay.
 fn run_on(
     m: Machine,
     cells: &mut [u32],
@@ -43,41 +99,30 @@ fn run_on(
     ensures { λ r. ⌜ outOf r (now (cells .exit)) (now (journal .exit)) ≡ runFrom kind budget 0 (stateOf m (now (cells .entry)) (now (journal .entry))) ⌝ }
 {
     let mut regs = m.regs;
-    let mut s = pack(m.settings);
-    let depth = m.depth;
-    let limit = limit_of(kind, cells.len());
-    let guard = guard_of(kind);
-    let total = lesser(budget, most - depth);
-    let mut at = Entry::WORDS * (depth as usize);
-    let mut left = total;
-    let mut told = 0;
-    while 0 < left {
-        let p = index_of(regs[255]);
-        if limit <= p {
-            return finish(&regs, kind, limit, s, depth, total - left, budget);
-        }
-        let cell = cells[p];
-        if writes_code(&regs, cells.len(), cell, guard) {
-            return refused(&regs, s, depth, total - left, Stop::Overwrite);
-        }
-        s = carry_out(
-            &mut journal[at..at + Entry::WORDS],
-            &mut regs,
-            cells,
-            s,
-            cell,
-            &mut told,
-        );
-        if 0 < told {
-            if stops(s, told) {
-                return halt(&regs, s, depth, total - left, told, cell);
-            }
-            told = 0;
-        }
-        at = at + Entry::WORDS;
-        left = left - 1;
+    let host = m.host;
+    let upshot = run_over(
+        &mut regs,
+        &host,
+        cells,
+        journal,
+        kind,
+        pack(m.settings),
+        m.depth,
+        budget,
+        most,
+    );
+    let settings = upshot.settings;
+    let stop = upshot.stop;
+    Ran {
+        machine: Machine {
+            regs,
+            settings,
+            depth: upshot.depth,
+            host,
+        },
+        stop,
+        count: upshot.count,
     }
-    finish(&regs, kind, limit, s, depth, total, budget)
 }
 
 // A run of either kind.

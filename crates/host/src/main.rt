@@ -34,12 +34,12 @@ fn settle(ran: Ran, cells: &mut [u32], journal: &[u32], room: &mut [u8]) -> Beca
     }
 }
 
-// Loads a job of at most 32,768 bytes into the cells and runs it, 400 steps at most.
+// Loads a job of at most 32,768 bytes into the cells and runs it, 400 steps at most. This host gives no date: its five words are zeros.
 fn scrub(job: &[u8], cells: &mut [u32], journal: &mut [u32], room: &mut [u8]) -> Became {
     if 32768 < job.len() {
         return Became::Refused(50);
     }
-    let loaded = job::load(job, cells);
+    let loaded = job::load(job, [0u32; 5], cells);
     let answer = loaded.answer;
     match answer {
         Answer::Refused { why, offset: _ } => Became::Refused(why.number()),

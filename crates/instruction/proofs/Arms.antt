@@ -24,13 +24,13 @@ pub arm : (c k x told : ℕ) (a : Action) (l : Left) (st : State) → x ≡ opco
 arm c k x told a l st p q f h = rw (f (sym p ∙ q)) h
 
 -- 80 to 106: nothing is done
-nothing-done : (told s : ℕ) (regs cells part : List ℕ) → s < 2 ^ 32 → left regs cells part s toldFloat ≡ leftOf told Float (before regs s cells part)
+nothing-done : (told s : ℕ) (regs host cells part : List ℕ) → s < 2 ^ 32 → left regs cells part s toldFloat ≡ leftOf told Float (before regs s host cells part)
 unfolding leftOf becameOf refusedBy
-nothing-done told s regs cells part h = rw (packed-unpacked s h)
+nothing-done told s regs host cells part h = rw (packed-unpacked s h)
 
-pub floats : (c x told s : ℕ) (regs cells part : List ℕ) → x ≡ opcodeOf c → 80 ≤ x → x < 107 → s < 2 ^ 32
-    → left regs cells part s toldFloat ≡ leftOf told (actionOf (decodeOf c)) (before regs s cells part)
-floats c x told s regs cells part e low high h = rw (float c (rw (← e) low) (rw (← e) (omega arith))) (nothing-done told s regs cells part h)
+pub floats : (c x told s : ℕ) (regs host cells part : List ℕ) → x ≡ opcodeOf c → 80 ≤ x → x < 107 → s < 2 ^ 32
+    → left regs cells part s toldFloat ≡ leftOf told (actionOf (decodeOf c)) (before regs s host cells part)
+floats c x told s regs host cells part e low high h = rw (float c (rw (← e) low) (rw (← e) (omega arith))) (nothing-done told s regs host cells part h)
 
 -- The opcodes of the match, last first: one that is none of them, and not among 80 to 106, is reserved.
 abbrev pub NoneOf : List ℕ → ℕ → Type 0

@@ -25,16 +25,17 @@ pub fn carry_out(
     part: &mut [u32],
     regs: &mut [u32; 256],
     cells: &mut [u32],
+    host: &[u32; 5],
     s: u32,
     cell: u32,
     told: &mut u32,
 ) -> u32
     ensures { λ r. ⌜ (length (now (regs .entry)) ≡ 256 → left (now (regs .exit)) (now (cells .exit)) (now (part .exit)) r (now (told .exit))
-        ≡ leftOf (now (told .entry)) (actionOf (decodeOf cell)) (before (now (regs .entry)) s (now (cells .entry)) (now (part .entry)))) ⌝ }
+        ≡ leftOf (now (told .entry)) (actionOf (decodeOf cell)) (before (now (regs .entry)) s (now (host .entry)) (now (cells .entry)) (now (part .entry)))) ⌝ }
 {
     match opcode_of(cell) {
         0 => swap(part, regs, s, cell),
-        1 => transfer(part, regs, cells, s, cell, told),
+        1 => transfer(part, regs, cells, host, s, cell, told),
         3 => load(part, regs, s, cell, Loaded::Lower),
         4 => load(part, regs, s, cell, Loaded::Upper),
         5 => load(part, regs, s, cell, Loaded::Alone),

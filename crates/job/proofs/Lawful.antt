@@ -1,4 +1,5 @@
--- A job that loads gives a lawful machine: 256 registers below 2^32, settings in range, depth 0, and as many cells as before, below 2^32.
+-- A job that loads gives a lawful machine: 256 registers below 2^32, settings in range, depth 0, five words below 2^32 where the host gives such,
+-- and as many cells as before, below 2^32.
 -- Assumes nothing.
 use Prim.Native.Nat.{ℕ, zero, suc, _+_, _-_, _≤_}
 use mathlib.Core.Path.{_≡_, refl, ap, _∙_}
@@ -16,20 +17,22 @@ use Rattle.machine.proofs.Tests.{picked, or-left, or-right}
 use Rattle.machine.specs.Lawful.{Words, Lawful}
 use Rattle.machine.proofs.Words.{set-words}
 use Rattle.job.specs.declared.records.Kind.{Kind}
-use Rattle.job.specs.declared.records.Kind.the-variants.{Run, Register, Setup, End, Other}
+use Rattle.job.specs.declared.records.Kind.the-variants.{Run, Register, Setup, Host, End, Other}
 use Rattle.job.specs.declared.records.Past.{Past}
-use Rattle.job.specs.Job.{wordsOf, cellsIn, baseOf, countOf, registerOf, registerValue, settingsIn, knownOf, fitsOf, endsOf, sizeOf, kindOf, payloadOf, inOrder, withinOf, settingsFit, pastOf, nothingYet, Fate, refused, last, further, passed, fateOf, Notice, refusedAt, afterEnd, followed, refusalFrom, refusalIn, Content, contentOf, contentFrom, unnamed, loadedBy, loadOf}
+use Rattle.job.specs.Job.{wordsOf, cellsIn, baseOf, countOf, registerOf, registerValue, settingsIn, knownOf, fitsOf, endsOf, sizeOf, rowOf, kindOf, payloadOf, inOrder, withinOf, settingsFit, pastOf, nothingYet, Fate, refused, last, further, passed, fateOf, Notice, refusedAt, afterEnd, followed, refusalFrom, refusalIn, Content, contentOf, contentFrom, unnamed, loadedWith, loadedBy, loadOf}
 use Rattle.lent.specs.Little.{Bytes}
 use Rattle.lent.proofs.Numbers.{bytes-drop, bytes-take, below-4}
-use Rattle.job.specs.Loads.{Loads}
+use Rattle.job.specs.Loads.{Loads, Given}
 use Rattle.machine.proofs.Checks.{not-above}
 use Rattle.job.proofs.Walk.{passing}
+use Rattle.job.proofs.Words.{length-words}
 
--- what the records so far have made
-record Good (m : ℕ) (c : Content) : Type 0 where
+-- what the records so far have made; of the host's words only where something is known of them
+record Good (m : ℕ) (P : Type 0) (c : Content) : Type 0 where
   registers : length (c .regs) ≡ 256
   words : Words (c .regs)
   settled : InRange (c .settings)
+  host : P → Given (c .host)
   cells : Words (c .cells)
   size : length (c .cells) ≡ m
 
@@ -60,33 +63,44 @@ in-range s h =
     }
 
 -- a record that has passed keeps it
-carried : (m : ℕ) (kind : Kind) (payload : List ℕ) (c : Content) → Bytes payload → settingsFit kind payload ≡ true → Good m c → Good m (contentOf kind payload c)
-carried m Run payload c b s g = record {
+carried : (m : ℕ) (P : Type 0) (kind : Kind) (payload : List ℕ) (c : Content) → Bytes payload → settingsFit kind payload ≡ true → Good m P c → Good m P (contentOf kind payload c)
+carried m P Run payload c b s g = record {
   registers = g .registers;
   words = g .words;
   settled = g .settled;
+  host = g .host;
   cells = sets-words (cellsIn payload) (c .cells) (baseOf payload) (g .cells) (words-of (countOf payload) (drop 2 payload) (bytes-drop 2 payload b));
   size = length-sets (c .cells) (baseOf payload) (cellsIn payload) ∙ g .size;
 }
-carried m Register payload c b s g = record {
+carried m P Register payload c b s g = record {
   registers = length-set (c .regs) (registerOf payload) (registerValue payload) ∙ g .registers;
   words = set-words (c .regs) (registerOf payload) (registerValue payload) (g .words) (below-4 1 4 payload (omega arith) b);
   settled = g .settled;
+  host = g .host;
   cells = g .cells;
   size = g .size;
 }
-carried m Setup payload c b s g = record {
+carried m P Setup payload c b s g = record {
   registers = g .registers;
   words = g .words;
   settled = in-range (settingsIn payload) (not-true (badSettings (settingsIn payload)) s);
+  host = g .host;
   cells = g .cells;
   size = g .size;
 }
-carried m End payload c b s g = g
-carried m Other payload c b s g = g
+carried m P Host payload c b s g = record {
+  registers = g .registers;
+  words = g .words;
+  settled = g .settled;
+  host = λ p. record { five = length-words 5 payload; words = words-of 5 payload b };
+  cells = g .cells;
+  size = g .size;
+}
+carried m P End payload c b s g = g
+carried m P Other payload c b s g = g
 
 -- the course of a record that has passed tells whether it ends the job
-impossible : {P : Type 0} → _≡_ {A = ℕ} 0 1 → P
+pub impossible : {P : Type 0} → _≡_ {A = ℕ} 0 1 → P
 impossible z = absurd (omega arith)
 
 ends-by : (t : Bool) (past : Past) (size : ℕ) → passed t past size ≡ last → t ≡ true
@@ -97,14 +111,14 @@ goes-by : (t : Bool) (past seen : Past) (size n : ℕ) → passed t past size �
 goes-by true past seen size n h = impossible (cc)
 goes-by false past seen size n h = (refl, cc)
 
-walked : (n m : ℕ) (left : List ℕ) (offset : ℕ) (past : Past) (c : Content) → Bytes left → refusalFrom n m left offset past ≡ none → Good m c → Good m (contentFrom n left c)
+walked : (n m : ℕ) (P : Type 0) (left : List ℕ) (offset : ℕ) (past : Past) (c : Content) → Bytes left → refusalFrom n m left offset past ≡ none → Good m P c → Good m P (contentFrom n left c)
 unfolding refusalFrom contentFrom
-walked zero m left offset past c b h g = impossible (cc)
-walked (suc n) m left offset past c b h g = by-course (fateOf m past left) refl h (λ size seen d e. walked n m d e seen _) g
+walked zero m P left offset past c b h g = impossible (cc)
+walked (suc n) m P left offset past c b h g = by-course (fateOf m past left) refl h (λ size seen d e. walked n m P d e seen _) g
   where
     by-course : (v : Fate) → fateOf m past left ≡ v → followed (refusalFrom n m) v left offset ≡ none
-        → ((size : ℕ) (seen : Past) (d : List ℕ) (e : ℕ) → Bytes d → refusalFrom n m d e seen ≡ none → Good m (contentOf (kindOf left) (payloadOf left) c) → Good m (contentFrom n d (contentOf (kindOf left) (payloadOf left) c)))
-        → Good m c → Good m (cond (endsOf (kindOf left)) c (contentFrom n (drop (6 + sizeOf left) left) (contentOf (kindOf left) (payloadOf left) c)))
+        → ((size : ℕ) (seen : Past) (d : List ℕ) (e : ℕ) → Bytes d → refusalFrom n m d e seen ≡ none → Good m P (contentOf (kindOf left) (payloadOf left) c) → Good m P (contentFrom n d (contentOf (kindOf left) (payloadOf left) c)))
+        → Good m P c → Good m P (cond (endsOf (kindOf left)) c (contentFrom n (drop (6 + sizeOf left) left) (contentOf (kindOf left) (payloadOf left) c)))
     by-course (refused k) e q f g = impossible (cc)
     by-course last e q f g =
         let p = passing m past left last refl e in
@@ -115,7 +129,7 @@ walked (suc n) m left offset past c b h g = by-course (fateOf m past left) refl 
         let q′ : refusalFrom n m (drop (6 + sizeOf left) left) (offset + size) seen ≡ none = rw (← w .1) q in
         rw (w .0)
         (f size seen (drop (6 + sizeOf left) left) (offset + size) (bytes-drop (6 + sizeOf left) left b) q′
-        (carried m (kindOf left) (payloadOf left) c (bytes-take (sizeOf left) (drop 6 left) (bytes-drop 6 left b)) (p .settled) g))
+        (carried m P (kindOf left) (payloadOf left) c (bytes-take (sizeOf left) (drop 6 left) (bytes-drop 6 left b)) (p .settled) g))
 
 -- a refusal has a number, so that what is said tells whether a job loads
 abbrev Named : Option Notice → Type 0
@@ -134,16 +148,17 @@ passed-numbered false past size = tt
 course-numbered : (m : ℕ) (past : Past) (left : List ℕ) → Numbered (fateOf m past left)
 unfolding fateOf
 course-numbered m past left =
+    let row = rowOf left in
     let kind = kindOf left in
     let payload = payloadOf left in
     picked Numbered (ltb (length left) 6) _ _ (λ t e. omega arith) (λ t.
     picked Numbered (not (knownOf kind)) _ _ (λ t e. omega arith) (λ t.
-    picked Numbered (not (fitsOf kind (sizeOf left))) _ _ (λ t e. omega arith) (λ t.
+    picked Numbered (not (fitsOf row (sizeOf left))) _ _ (λ t e. omega arith) (λ t.
     picked Numbered (ltb (length left) (6 + sizeOf left)) _ _ (λ t e. omega arith) (λ t.
-    picked Numbered (not (inOrder past kind payload)) _ _ (λ t e. omega arith) (λ t.
+    picked Numbered (not (inOrder past row payload)) _ _ (λ t e. omega arith) (λ t.
     picked Numbered (not (withinOf m kind payload)) _ _ (λ t e. omega arith) (λ t.
     picked Numbered (not (settingsFit kind payload)) _ _ (λ t e. omega arith) (λ t.
-    passed-numbered (endsOf kind) (pastOf past kind payload) (sizeOf left))))))))
+    passed-numbered (endsOf kind) (pastOf past kind (row .rank) payload) (sizeOf left))))))))
 
 end-named : (more offset : ℕ) → Named (afterEnd more offset)
 end-named zero offset = tt
@@ -165,13 +180,13 @@ refusal-named : (m : ℕ) (job : List ℕ) → Named (refusalIn m job)
 unfolding refusalIn
 refusal-named m job = picked Named (badCells m) _ _ (λ t e. omega arith) (λ t. walk-named (length job) m job 0 nothingYet)
 
-loads : (o : Option Notice) (job cells : List ℕ) → Named o → loadedBy o job cells .said ≡ record { number = 0; offset = 0 } → o ≡ none
-loads none job cells f h = refl
-loads (some x) job cells f h = absurd (f (ap (λ (y : Notice). y .number) h))
+loads : (o : Option Notice) (job host cells : List ℕ) → Named o → loadedBy o job host cells .said ≡ record { number = 0; offset = 0 } → o ≡ none
+loads none job host cells f h = refl
+loads (some x) job host cells f h = absurd (f (ap (λ (y : Notice). y .number) h))
 
-module _ (job cells : List ℕ) (bytes : Bytes job) (h : Loads job cells) where
+module _ (job host cells : List ℕ) (bytes : Bytes job) (h : Loads job host cells) where
   free : refusalIn (length cells) job ≡ none
-  free = loads (refusalIn (length cells) job) job cells (refusal-named (length cells) job) h
+  free = loads (refusalIn (length cells) job) job host cells (refusal-named (length cells) job) h
 
   split : (t : Bool) (m : ℕ) {o : Option Notice} → cond t (refusedAt 12 0) o ≡ none → (t ≡ false) × (o ≡ none)
   split true m e = impossible (cc)
@@ -189,25 +204,31 @@ module _ (job cells : List ℕ) (bytes : Bytes job) (h : Loads job cells) where
   pub few-cells : length cells ≤ mostCells
   few-cells = not-above (length cells) (fine .0)
 
-  made : Good (length cells) (contentFrom (length job) job (unnamed (length cells)))
-  made = walked (length job) (length cells) job 0 nothingYet (unnamed (length cells)) bytes (fine .1) (record {
+  made : Good (length cells) (Given host) (contentFrom (length job) job (unnamed host (length cells)))
+  made = walked (length job) (length cells) (Given host) job 0 nothingYet (unnamed host (length cells)) bytes (fine .1) (record {
     registers = length-replicate {A = ℕ} 256 0;
     words = zeros 256;
     settled = record { flags = omega arith; mask = omega arith; mode = omega arith };
+    host = λ p. p;
     cells = zeros (length cells);
     size = length-replicate {A = ℕ} (length cells) 0;
   })
 
-  pub loaded-lawful : (journal : List ℕ) → Lawful (stateOf (loadOf job cells .machine) (loadOf job cells .cells) journal)
-  loaded-lawful journal = rw free (record {
+  pub loaded-lawful : Given host → (journal : List ℕ) → Lawful (stateOf (loadOf job host cells .machine) (loadOf job host cells .cells) journal)
+  loaded-lawful given journal = rw free (record {
     registers = made .registers;
     words = made .words;
     cells = made .cells;
+    five = made .host given .five;
+    given = made .host given .words;
     ready = record { settled = made .settled; room = omega arith };
   })
 
-  pub loaded-depth : loadOf job cells .machine .depth ≡ 0
+  pub loaded-depth : loadOf job host cells .machine .depth ≡ 0
   loaded-depth = rw free
 
-  pub loaded-cells : length (loadOf job cells .cells) ≡ length cells
+  pub loaded-cells : length (loadOf job host cells .cells) ≡ length cells
   loaded-cells = rw free (made .size)
+
+  pub loaded-from : loadOf job host cells ≡ loadedWith (contentFrom (length job) job (unnamed host (length cells)))
+  loaded-from = rw free

@@ -3,3 +3,4 @@ pub mod Walk
 pub mod Words
 pub mod Loading
 pub mod Lawful
+pub mod Wordless

@@ -19,23 +19,23 @@ unfolded : (job cells : List ℕ) → badCells (length cells) ≡ false → refu
 unfolding refusalIn
 unfolded job cells h = rw h
 
-module _ (job cells : List ℕ) where
+pub none-refused : (job cells : List ℕ) (answer : Answer) → answer ≡ Done → noticed answer ≡ refusalFrom (length job) (length cells) job 0 nothingYet
+    → refusalFrom (length job) (length cells) job 0 nothingYet ≡ none
+none-refused job cells answer t e = sym e ∙ ap noticed t
+
+module _ (job host cells : List ℕ) where
   pub load-few : (m : Machine) → m ≡ freshMachine → badCells (length cells) ≡ true
-      → record { machine = m; cells = cells; said = record { number = 12; offset = 0 } } ≡ loadOf job cells
+      → record { machine = m; cells = cells; said = record { number = 12; offset = 0 } } ≡ loadOf job host cells
   unfolding refusalIn
   load-few m e h = rw (h, e)
 
-  pub none-refused : (answer : Answer) → answer ≡ Done → noticed answer ≡ refusalFrom (length job) (length cells) job 0 nothingYet
-      → refusalFrom (length job) (length cells) job 0 nothingYet ≡ none
-  none-refused answer t e = sym e ∙ ap noticed t
-
   pub load-refused : (m : Machine) (answer : Answer) (why : Refusal) (offset : ℕ) → m ≡ freshMachine → badCells (length cells) ≡ false → answer ≡ Refused why offset
       → noticed answer ≡ refusalFrom (length job) (length cells) job 0 nothingYet
-      → record { machine = m; cells = cells; said = noticeOf answer } ≡ loadOf job cells
+      → record { machine = m; cells = cells; said = noticeOf answer } ≡ loadOf job host cells
   load-refused m answer why offset f h t e =
       let s : refusalFrom (length job) (length cells) job 0 nothingYet ≡ noticed (Refused why offset) = sym e ∙ ap noticed t in
       rw (unfolded job cells h, s, f, t)
 
   pub load-done : (c : Content) → badCells (length cells) ≡ false → refusalFrom (length job) (length cells) job 0 nothingYet ≡ none
-      → c ≡ contentFrom (length job) job (unnamed (length cells)) → loadedWith c ≡ loadOf job cells
+      → c ≡ contentFrom (length job) job (unnamed host (length cells)) → loadedWith c ≡ loadOf job host cells
   load-done c h e p = rw (unfolded job cells h, e, p)

@@ -1,16 +1,18 @@
--- What a record's rules show: a payload of the right length holds its kind's parts.
+-- What the table of kinds shows: a payload of a length that fits its row holds its kind's parts.
 -- Assumes nothing.
-use Prim.Native.Nat.{ℕ, _+_, _-_, _%_, _≤_}
+use Prim.Native.Nat.{ℕ, _+_, _-_, _^_, _%_, _≤_, _<_}
 use mathlib.Core.Path.{_≡_, refl}
 use mathlib.Core.Bool.{Bool, true, false, _&&_}
+use mathlib.Core.List.{List, [], _∷_}
 use native.Mathlib.Omega.{arith}
 use lib.Dec.{leb, eqb}
 use borrow.Author.Tests.{leb-true, eqb-true}
+use Rattle.machine.proofs.Tests.{picked}
 use Rattle.job.specs.declared.records.Kind.{Kind}
-use mathlib.Core.List.{List}
-use Rattle.job.specs.declared.records.Kind.the-variants.{Run, Register, Setup, End, Other}
-use Rattle.job.specs.Job.{fitsOf, baseOf, countOf, withinOf}
-use Rattle.job.specs.Inner.{Sound}
+use Rattle.job.specs.declared.records.Kind.the-variants.{Run, Host}
+use Rattle.job.specs.declared.records.Row.{Row}
+use Rattle.job.specs.Job.{among, kinds, noKind, rowBy, fitsOf, baseOf, countOf}
+use Rattle.job.specs.Inner.{Sized, Sound}
 
 pub and-left : (a b : Bool) → (a && b) ≡ true → a ≡ true
 and-left true b h = refl
@@ -20,42 +22,68 @@ pub and-right : (a b : Bool) → (a && b) ≡ true → b ≡ true
 and-right true b h = h
 and-right false b h = let z : _≡_ {A = ℕ} 0 1 = cc in absurd (omega arith)
 
--- the kind is known
-pub as-kind : (k v : Kind) (n : ℕ) → k ≡ v → fitsOf k n ≡ true → fitsOf v n ≡ true
-as-kind k v n e h = rw e at h
+-- what each row of a table has, the row of any number has
+abbrev Each : (Row → Type 0) → List (ℕ × Row) → Row → Type 0
+Each P [] other = P other
+Each P (row ∷ rows) other = P (row .1) × Each P rows other
 
-pub record RunSize (n : ℕ) : Type 0 where
-  pub least : 6 ≤ n
-  pub most : n ≤ 65538
-  pub whole : (n - 2) % 4 ≡ 0
+by-row : (P : Row → Type 0) (number : ℕ) (rows : List (ℕ × Row)) (other : Row) → Each P rows other → P (among number rows other)
+by-row P number [] other p = p
+by-row P number (row ∷ rows) other p = picked P (eqb number (row .0)) (row .1) (among number rows other) (λ t. p .0) (λ t. by-row P number rows other (p .1))
 
-pub run-size : (k : Kind) (n : ℕ) → k ≡ Run → fitsOf k n ≡ true → RunSize n
-run-size k n e h =
-    let f = as-kind k Run n e h in
-    let lm = and-left (leb 6 n && leb n 65538) (eqb ((n - 2) % 4) 0) f in
+both : {A B : Type 0} → A → B → A × B
+both a b = (a, b)
+
+-- a length that fits a row
+record Between (row : Row) (size : ℕ) : Type 0 where
+  least : row .least ≤ size
+  most : size ≤ row .most
+  fours : (size - row .least) % 4 ≡ 0
+
+fits-between : (row : Row) (size : ℕ) → fitsOf row size ≡ true → Between row size
+fits-between row size h =
+    let l = leb (row .least) size in
+    let m = leb size (row .most) in
+    let f = eqb ((size - row .least) % 4) 0 in
     record {
-      least = leb-true 6 n (and-left (leb 6 n) (leb n 65538) lm);
-      most = leb-true n 65538 (and-right (leb 6 n) (leb n 65538) lm);
-      whole = eqb-true ((n - 2) % 4) 0 (and-right (leb 6 n && leb n 65538) (eqb ((n - 2) % 4) 0) f);
+      least = leb-true (row .least) size (and-left l m (and-left (l && m) f h));
+      most = leb-true size (row .most) (and-right l m (and-left (l && m) f h));
+      fours = eqb-true ((size - row .least) % 4) 0 (and-right (l && m) f h);
     }
 
-pub register-size : (k : Kind) (n : ℕ) → k ≡ Register → fitsOf k n ≡ true → n ≡ 5
-register-size k n e h = eqb-true n 5 (as-kind k Register n e h)
+-- a row's lengths are its kind's
+record Sizes (row : Row) : Type 0 where
+  sizes : (size : ℕ) → Between row size → Sized (row .kind) size
 
-pub setup-size : (k : Kind) (n : ℕ) → k ≡ Setup → fitsOf k n ≡ true → n ≡ 5
-setup-size k n e h = eqb-true n 5 (as-kind k Setup n e h)
+clash : {P : Type 0} → _≡_ {A = ℕ} 0 1 → P
+clash z = absurd (omega arith)
 
--- a payload's length is at most 65,538
-pub sizes : (k : Kind) (n : ℕ) → fitsOf k n ≡ true → n ≤ 65538
-sizes Run n h = run-size Run n refl h .most
-sizes Register n h = omega (arith, register-size Register n refl h)
-sizes Setup n h = omega (arith, setup-size Setup n refl h)
-sizes End n h = omega (arith, eqb-true n 0 h)
-sizes Other n h = let z : _≡_ {A = ℕ} 0 1 = cc in absurd (omega arith)
+plain : (row : Row) → (row .kind ≡ Run → ⊥) → (row .kind ≡ Host → ⊥) → row .most < 2 ^ 31 → Sizes row
+plain row r h m = record { sizes = λ size b. record { run = λ e. absurd (r e); host = λ e. absurd (h e); short = omega (arith, b .most) } }
 
--- a run that is sound ends within the cells
-pub within-cells : (m : ℕ) (k : Kind) (payload : List ℕ) → k ≡ Run → Sound m k payload → baseOf payload + countOf payload ≤ m
-within-cells m k payload e s = let w : withinOf m Run payload ≡ true = rw e at (s .within) in leb-true _ _ w
+row-sizes : (number : ℕ) → Sizes (rowBy number)
+unfolding rowBy
+row-sizes number =
+    by-row Sizes number kinds noKind
+    (both (record { sizes = λ size b. record { run = λ e. omega (arith, b .least); host = λ e. clash (cc); short = omega (arith, b .most) } })
+    (both (plain (rowBy 2) (λ e. clash (cc)) (λ e. clash (cc)) (omega arith))
+    (both (plain (rowBy 3) (λ e. clash (cc)) (λ e. clash (cc)) (omega arith))
+    (both (record { sizes = λ size b. record { run = λ e. clash (cc); host = λ e. omega (arith, b .least, b .most); short = omega (arith, b .most) } })
+    (both (plain (rowBy 4) (λ e. clash (cc)) (λ e. clash (cc)) (omega arith))
+    (plain noKind (λ e. clash (cc)) (λ e. clash (cc)) (omega arith)))))))
+
+pub sized-by : (row : Row) (number size : ℕ) → row ≡ rowBy number → fitsOf row size ≡ true → Sized (row .kind) size
+sized-by row number size e h =
+    let s : Sizes row = rw e (row-sizes number) in
+    s .sizes size (fits-between row size h)
+
+-- the kind is known
+pub as-sized : (k v : Kind) (n : ℕ) → k ≡ v → Sized k n → Sized v n
+as-sized k v n e s = rw (← e) s
 
 pub as-sound : (m : ℕ) (k v : Kind) (payload : List ℕ) → k ≡ v → Sound m k payload → Sound m v payload
 as-sound m k v payload e s = rw (← e) s
+
+-- a run that is sound ends within the cells
+pub within-cells : (m : ℕ) (payload : List ℕ) → Sound m Run payload → baseOf payload + countOf payload ≤ m
+within-cells m payload s = leb-true _ _ (s .within)

@@ -9,13 +9,15 @@ use native.Mathlib.Omega.{arith}
 use lib.Dec.{ltb}
 use lib.ListN.{length, take, drop, length-drop}
 use lib.Seq.{take-all, drop-drop, length-take-le}
-use borrow.Author.Tests.{ltb-false, lt-ltb, not-false}
+use borrow.Author.Tests.{ltb-false, lt-ltb, le-ltb, not-false}
 use Rattle.job.specs.declared.records.Kind.{Kind}
+use Rattle.job.specs.declared.records.Row.{Row}
 use Rattle.job.specs.declared.records.Past.{Past}
 use Rattle.job.specs.declared.reading.Look.{Look}
 use Rattle.lent.specs.Little.{numberAt}
-use Rattle.job.specs.Job.{kindBy, knownOf, fitsOf, endsOf, sizeOf, kindOf, payloadOf, pastOf, nothingYet, inOrder, withinOf, settingsFit, Fate, refused, last, further, passed, fateOf, Notice, refusedAt, followed, refusalFrom, Content, contentOf, contentFrom}
+use Rattle.job.specs.Job.{rowBy, knownOf, fitsOf, endsOf, sizeOf, rowOf, kindOf, payloadOf, pastOf, nothingYet, inOrder, withinOf, settingsFit, Fate, refused, last, further, passed, payloadFate, fateOf, Notice, refusedAt, followed, refusalFrom, Content, contentOf, contentFrom}
 use Rattle.job.specs.Inner.{lookedOf, Sound}
+use Rattle.job.proofs.Rules.{sized-by}
 
 -- what the records so far leave to the order, by a name for the crates above
 abbrev pub SoFar : Type 0
@@ -38,29 +40,29 @@ by false k o v g h = (refl, h)
 pub record Passed (m : ℕ) (past : Past) (left : List ℕ) (v : Fate) : Type 0 where
   pub head : 6 ≤ length left
   pub known : knownOf (kindOf left) ≡ true
-  pub fits : fitsOf (kindOf left) (sizeOf left) ≡ true
+  pub fits : fitsOf (rowOf left) (sizeOf left) ≡ true
   pub whole : 6 + sizeOf left ≤ length left
-  pub order : inOrder past (kindOf left) (payloadOf left) ≡ true
+  pub order : inOrder past (rowOf left) (payloadOf left) ≡ true
   pub within : withinOf m (kindOf left) (payloadOf left) ≡ true
   pub settled : settingsFit (kindOf left) (payloadOf left) ≡ true
-  pub course : passed (endsOf (kindOf left)) (pastOf past (kindOf left) (payloadOf left)) (sizeOf left) ≡ v
+  pub course : passed (endsOf (kindOf left)) (pastOf past (kindOf left) (rowOf left .rank) (payloadOf left)) (sizeOf left) ≡ v
 
 pub passing : (m : ℕ) (past : Past) (left : List ℕ) (v : Fate) → goes v ≡ true → fateOf m past left ≡ v → Passed m past left v
 unfolding fateOf
 passing m past left v g h =
     let a = by (ltb (length left) 6) 41 _ v g h in
     let b = by (not (knownOf (kindOf left))) 42 _ v g (a .1) in
-    let c = by (not (fitsOf (kindOf left) (sizeOf left))) 43 _ v g (b .1) in
+    let c = by (not (fitsOf (rowOf left) (sizeOf left))) 43 _ v g (b .1) in
     let d = by (ltb (length left) (6 + sizeOf left)) 44 _ v g (c .1) in
-    let e = by (not (inOrder past (kindOf left) (payloadOf left))) 46 _ v g (d .1) in
+    let e = by (not (inOrder past (rowOf left) (payloadOf left))) 46 _ v g (d .1) in
     let f = by (not (withinOf m (kindOf left) (payloadOf left))) 45 _ v g (e .1) in
     let s = by (not (settingsFit (kindOf left) (payloadOf left))) 10 _ v g (f .1) in
     record {
       head = ltb-false (length left) 6 (a .0);
       known = not-false (knownOf (kindOf left)) (b .0);
-      fits = not-false (fitsOf (kindOf left) (sizeOf left)) (c .0);
+      fits = not-false (fitsOf (rowOf left) (sizeOf left)) (c .0);
       whole = ltb-false (length left) (6 + sizeOf left) (d .0);
-      order = not-false (inOrder past (kindOf left) (payloadOf left)) (e .0);
+      order = not-false (inOrder past (rowOf left) (payloadOf left)) (e .0);
       within = not-false (withinOf m (kindOf left) (payloadOf left)) (f .0);
       settled = not-false (settingsFit (kindOf left) (payloadOf left)) (s .0);
       course = s .1;
@@ -95,9 +97,47 @@ rest-length a l = rw (rest-of a l) (length-drop a l)
 pub lent-length : (left : List ℕ) (n : ℕ) → 6 + n ≤ length left → length (take (6 + n - 6) (drop 6 left)) ≡ n
 lent-length left n h = let e : 6 + n - 6 ≡ n = omega arith in rw e (length-take-le n (drop 6 left) (simp length-drop (omega arith)))
 
+-- the course of a record, by the row and the size that were read of it
+abbrev pub fateWith : ℕ → Past → Row → ℕ → List ℕ → Fate
+fateWith m past row size left =
+    cond (ltb (length left) 6) (refused 41)
+    (cond (not (knownOf (row .kind))) (refused 42)
+    (cond (not (fitsOf row size)) (refused 43)
+    (cond (ltb (length left) (6 + size)) (refused 44)
+    (payloadFate m past row (take size (drop 6 left)) size))))
+
+pub fate-by : (m : ℕ) (past : Past) (row : Row) (size : ℕ) (left : List ℕ) → row ≡ rowOf left → size ≡ sizeOf left → fateWith m past row size left ≡ fateOf m past left
+unfolding fateOf
+fate-by m past row size left e f = λ i. fateWith m past (e i) (f i) left
+
+module _ (m : ℕ) (past : Past) (left : List ℕ) (row : Row) (n : ℕ) (e : row ≡ rowBy n) (f : n ≡ numberAt 4 2 left) (h : 6 ≤ length left) where
+  read : row ≡ rowOf left
+  read = e ∙ ap rowBy f
+
+  module _ (b : Bool) (k : b ≡ knownOf (row .kind)) where
+    pub fate-unknown : not b ≡ true → refused 42 ≡ fateOf m past left
+    fate-unknown t = rw (le-ltb (length left) 6 h, ← k, t) at (fate-by m past row (sizeOf left) left read refl)
+
+    module _ (t : not b ≡ false) (size : ℕ) (g : size ≡ sizeOf left) (d : Bool) (q : d ≡ fitsOf row size) where
+      pub fate-misfit : not d ≡ true → refused 43 ≡ fateOf m past left
+      fate-misfit s = rw (le-ltb (length left) 6 h, ← k, t, ← q, s) at (fate-by m past row size left read g)
+
+      pub fate-cut : not d ≡ false → length left < 6 + size → refused 44 ≡ fateOf m past left
+      fate-cut s c = rw (le-ltb (length left) 6 h, ← k, t, ← q, s, lt-ltb (length left) (6 + size) c) at (fate-by m past row size left read g)
+
+      pub fate-payload : not d ≡ false → 6 + size ≤ length left → (v : Fate)
+          → v ≡ payloadFate m past row (take (6 + size - 6) (drop 6 left)) (length (take (6 + size - 6) (drop 6 left))) → v ≡ fateOf m past left
+      fate-payload s c v p =
+          let w : 6 + size - 6 ≡ size = omega arith in
+          let l : length (take size (drop 6 left)) ≡ size = rw w at (lent-length left size c) in
+          (rw (w, l) at p) ∙ (rw (le-ltb (length left) 6 h, ← k, t, ← q, s, le-ltb (length left) (6 + size) c) at (fate-by m past row size left read g))
+
 -- the parts of the record at an offset, as the part that is lent shows them
-pub kind-there : (job : List ℕ) (at : ℕ) (k : Kind) (n : ℕ) → k ≡ kindBy n → n ≡ numberAt 4 2 (take (length job - at) (drop at job)) → k ≡ kindOf (drop at job)
-kind-there job at k n e h = e ∙ rw (h, rest-of at job)
+row-there : (job : List ℕ) (at : ℕ) (row : Row) (n : ℕ) → row ≡ rowBy n → n ≡ numberAt 4 2 (take (length job - at) (drop at job)) → row ≡ rowOf (drop at job)
+row-there job at row n e h = e ∙ rw (h, rest-of at job)
+
+pub kind-there : (job : List ℕ) (at : ℕ) (row : Row) (n : ℕ) → row ≡ rowBy n → n ≡ numberAt 4 2 (take (length job - at) (drop at job)) → row .kind ≡ kindOf (drop at job)
+kind-there job at row n e h = ap (λ (r : Row). r .kind) (row-there job at row n e h)
 
 pub size-there : (job : List ℕ) (at n : ℕ) → n ≡ numberAt 0 4 (take (length job - at) (drop at job)) → n ≡ sizeOf (drop at job)
 size-there job at n h = h ∙ rw (rest-of at job)
@@ -151,7 +191,7 @@ module _ (m : ℕ) (job : List ℕ) (at : ℕ) (past : Past) (u : Underway m job
     pub further-size : (6 ≤ size) × (at + size ≤ length job)
     further-size =
         let p = fitting in
-        let s = sized (endsOf (kindOf (drop at job))) (pastOf past (kindOf (drop at job)) (payloadOf (drop at job))) seen (sizeOf (drop at job)) size (p .course) in
+        let s = sized (endsOf (kindOf (drop at job))) (pastOf past (kindOf (drop at job)) (rowOf (drop at job) .rank) (payloadOf (drop at job))) seen (sizeOf (drop at job)) size (p .course) in
         let w : 6 + sizeOf (drop at job) ≤ length job - at = rw length-drop at (p .whole) in
         (omega arith, omega (arith, u .inside))
 
@@ -175,15 +215,16 @@ going rest (further size past) left offset h = refl
 pub record Carrying (m : ℕ) (job : List ℕ) (from : Content) (at : ℕ) (now : Content) : Type 0 where
   pub inside : at ≤ length job
   pub cells : length (now .cells) ≡ m
+  pub five : length (now .host) ≡ 5
   pub fuel : ℕ
   pub enough : length job - at ≤ fuel
   pub past : Past
   pub sound : refusalFrom fuel m (drop at job) at past ≡ none
   pub rest : contentFrom fuel (drop at job) now ≡ contentFrom (length job) job from
 
-pub begin : (m : ℕ) (job : List ℕ) (from : Content) → length (from .cells) ≡ m → refusalFrom (length job) m job 0 nothingYet ≡ none → Carrying m job from 0 from
-begin m job from e h =
-    record { inside = omega arith; cells = e; fuel = length job; enough = omega arith; past = nothingYet; sound = h; rest = refl }
+pub begin : (m : ℕ) (job : List ℕ) (from : Content) → length (from .cells) ≡ m → length (from .host) ≡ 5 → refusalFrom (length job) m job 0 nothingYet ≡ none → Carrying m job from 0 from
+begin m job from e f h =
+    record { inside = omega arith; cells = e; five = f; fuel = length job; enough = omega arith; past = nothingYet; sound = h; rest = refl }
 
 ended : (n : ℕ) (left : List ℕ) (c : Content) → 0 < n → endsOf (kindOf left) ≡ true → contentFrom n left c ≡ c
 unfolding contentFrom
@@ -208,27 +249,28 @@ module _ (m : ℕ) (job : List ℕ) (from : Content) (at : ℕ) (now : Content) 
   there = (rw length-drop at (fine .head), rw length-drop at (fine .whole))
 
   pub record-sound : Sound m (kindOf (drop at job)) (payloadOf (drop at job))
-  record-sound = record { fits = rw (payload-length (drop at job) (fine .whole)) (fine .fits); within = fine .within }
+  record-sound = record { sized = rw (payload-length (drop at job) (fine .whole)) (sized-by (rowOf (drop at job)) (numberAt 4 2 (drop at job)) (sizeOf (drop at job)) refl (fine .fits)); within = fine .within }
 
   pub over : endsOf (kindOf (drop at job)) ≡ true → now ≡ contentFrom (length job) job from
   over e = let t = there in sym (ended (u .fuel) (drop at job) now (omega (arith, u .enough)) e) ∙ u .rest
 
   module _ (e : endsOf (kindOf (drop at job)) ≡ false) where
-    next-course : further (6 + sizeOf (drop at job)) (pastOf (u .past) (kindOf (drop at job)) (payloadOf (drop at job))) ≡ fateOf m (u .past) (drop at job)
+    next-course : further (6 + sizeOf (drop at job)) (pastOf (u .past) (kindOf (drop at job)) (rowOf (drop at job) .rank) (payloadOf (drop at job))) ≡ fateOf m (u .past) (drop at job)
     next-course = let c = fine .course in rw e at c
 
-    pub on : (next : Content) → next ≡ contentOf (kindOf (drop at job)) (payloadOf (drop at job)) now → length (next .cells) ≡ length (now .cells)
+    pub on : (next : Content) → next ≡ contentOf (kindOf (drop at job)) (payloadOf (drop at job)) now → length (next .cells) ≡ length (now .cells) → length (next .host) ≡ length (now .host)
         → Carrying m job from (at + (6 + sizeOf (drop at job))) next
-    on next p q =
+    on next p q s =
         let t = there in
-        let h : followed (refusalFrom (pred (u .fuel)) m) (further (6 + sizeOf (drop at job)) (pastOf (u .past) (kindOf (drop at job)) (payloadOf (drop at job)))) (drop at job) at ≡ none
+        let h : followed (refusalFrom (pred (u .fuel)) m) (further (6 + sizeOf (drop at job)) (pastOf (u .past) (kindOf (drop at job)) (rowOf (drop at job) .rank) (payloadOf (drop at job)))) (drop at job) at ≡ none
         = ap (λ (v : Fate). followed (refusalFrom (pred (u .fuel)) m) v (drop at job) at) next-course ∙ walked in
         record {
           inside = omega (arith, u .inside);
           cells = q ∙ u .cells;
+          five = s ∙ u .five;
           fuel = pred (u .fuel);
           enough = omega (arith, u .enough);
-          past = pastOf (u .past) (kindOf (drop at job)) (payloadOf (drop at job));
+          past = pastOf (u .past) (kindOf (drop at job)) (rowOf (drop at job) .rank) (payloadOf (drop at job));
           sound = rw (← drop-drop (6 + sizeOf (drop at job)) at job) h;
           rest = rw (p, ← drop-drop (6 + sizeOf (drop at job)) at job) (sym (carried (u .fuel) (drop at job) now (omega (arith, u .enough)) e) ∙ u .rest);
         }

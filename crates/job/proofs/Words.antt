@@ -1,11 +1,11 @@
 -- Words read from bytes into cells, one after the other.
 -- Assumes nothing.
 use Prim.Native.Nat.{ℕ, zero, suc, _+_, _-_, _*_, _≤_, _<_}
-use mathlib.Core.Path.{_≡_, refl, ap}
-use mathlib.Core.List.{List}
+use mathlib.Core.Path.{_≡_, refl, ap, _∙_}
+use mathlib.Core.List.{List, [], append-nil}
 use native.Mathlib.Omega.{arith}
-use lib.ListN.{length, set, drop}
-use lib.Seq.{sets, drop-drop}
+use lib.ListN.{length, set, drop, drop-of-length-le}
+use lib.Seq.{sets, sets-eq, drop-drop}
 use Rattle.lent.specs.Little.{numberAt}
 use Rattle.job.specs.Job.{wordsOf}
 
@@ -32,3 +32,10 @@ words-turn part words count i v h e =
 pub words-over : (part words : List ℕ) (count i : ℕ) → count ≤ i → part ≡ sets part i (wordsOf (count - i) (drop (4 * i) words))
 unfolding wordsOf
 words-over part words count i h = let w : count - i ≡ 0 = omega arith in rw w
+
+-- as many words as there are places leave nothing of what was there
+pub words-over-all : (part words : List ℕ) → length part ≡ 5 → sets part 0 (wordsOf 5 words) ≡ wordsOf 5 words
+words-over-all part words e =
+    let n = length-words 5 words in
+    let d : drop (0 + length (wordsOf 5 words)) part ≡ [] = drop-of-length-le part {i = 0 + length (wordsOf 5 words)} (omega arith) in
+    sets-eq (wordsOf 5 words) part 0 (omega arith) ∙ rw d (append-nil (wordsOf 5 words))

@@ -25,9 +25,10 @@ pub struct Loaded {
     pub answer: Answer,
 }
 
-// A job into the cells that the host lends: the machine and the cells that it holds, or the first refusal with nothing written.
-pub fn load(job: &[u8], cells: &mut [u32]) -> Loaded
-    ensures { λ r. ⌜ loadWith r (now (cells .exit)) ≡ loadOf (now (job .entry)) (now (cells .entry)) ⌝ }
+// A job, with the host's words, into the cells that the host lends: the machine and the cells that it holds, or the first refusal with
+// nothing written. The job's own words decide over the host's.
+pub fn load(job: &[u8], host: [u32; 5], cells: &mut [u32]) -> Loaded
+    ensures { λ r. ⌜ loadWith r (now (cells .exit)) ≡ loadOf (now (job .entry)) host (now (cells .entry)) ⌝ }
 {
     if !good_cells(cells.len()) {
         return Loaded {
@@ -47,12 +48,14 @@ pub fn load(job: &[u8], cells: &mut [u32]) -> Loaded
         Answer::Done => {
             clear(cells);
             let mut regs = [0u32; 256];
-            let settings = carry_out(job, &mut regs, cells);
+            let mut words = host;
+            let settings = carry_out(job, &mut regs, &mut words, cells);
             Loaded {
                 machine: Machine {
                     regs,
                     settings,
                     depth: 0,
+                    host: words,
                 },
                 answer: Answer::Done,
             }

@@ -1,22 +1,22 @@
 // Reading a job: its first refusal, and then its records carried out.
 ghost use mathlib.Core.Path.{_≡_};
-ghost use mathlib.Core.Bool.{true};
 ghost use mathlib.Core.Option.{none};
 ghost use Prim.Native.Nat.{_+_, _*_, _≤_};
 ghost use lib.ListN.{length, set};
 ghost use lib.Seq.{sets};
 ghost use Rattle.machine.specs.State.{freshSettings};
-ghost use Rattle.job.specs.Job.{fitsOf, registerOf, registerValue, nothingYet, fateOf, payloadFate, refusalFrom, baseOf, cellsIn, wordsOf, contentOf, contentFrom};
-ghost use Rattle.job.specs.Inner.{lookedOf, noticed, contentWith, Sound};
+ghost use Rattle.job.specs.Job.{registerOf, registerValue, nothingYet, fateOf, payloadFate, refusalFrom, baseOf, cellsIn, wordsOf, contentOf, contentFrom};
+ghost use Rattle.job.specs.Inner.{lookedOf, noticed, contentWith, Sized, Sound};
 use crate::Answer;
 use crate::records::Kind;
 use crate::records::Past;
+use crate::records::Row;
 use crate::records::ends;
 use crate::records::fits;
 use crate::records::in_order;
-use crate::records::kind_by;
 use crate::records::known;
 use crate::records::passed;
+use crate::records::row_by;
 use crate::records::settings_in;
 use crate::records::settled;
 use crate::records::within;
@@ -32,13 +32,14 @@ pub(crate) enum Look {
 }
 
 // A record's payload: 46, 45, 10.
-fn look_in(m: usize, past: Past, kind: Kind, payload: &[u8]) -> Look
-    requires { ⌜ fitsOf kind (length (now payload)) ≡ true ⌝ }
-    ensures { λ r. ⌜ lookedOf r ≡ payloadFate m past kind (now (payload .entry)) (length (now (payload .entry))) ⌝ }
+fn look_in(m: usize, past: Past, row: Row, payload: &[u8]) -> Look
+    requires { ⌜ Sized (row .kind) (length (now payload)) ⌝ }
+    ensures { λ r. ⌜ lookedOf r ≡ payloadFate m past row (now (payload .entry)) (length (now (payload .entry))) ⌝ }
 {
-    if !in_order(past, kind, payload) {
+    if !in_order(past, row, payload) {
         return Look::Bad(Refusal::Order);
     }
+    let kind = row.kind;
     if !within(m, kind, payload) {
         return Look::Bad(Refusal::Space);
     }
@@ -50,7 +51,7 @@ fn look_in(m: usize, past: Past, kind: Kind, payload: &[u8]) -> Look
     }
     Look::Next {
         size: 6 + payload.len(),
-        past: passed(past, kind, payload),
+        past: passed(past, row, payload),
     }
 }
 
@@ -61,19 +62,20 @@ fn look_at(m: usize, past: Past, left: &[u8]) -> Look
     if left.len() < 6 {
         return Look::Bad(Refusal::Short);
     }
-    let kind = kind_by(number(left, 4, 2));
+    let row = row_by(number(left, 4, 2));
+    let kind = row.kind;
     if !known(kind) {
         return Look::Bad(Refusal::Unknown);
     }
     let size = number(left, 0, 4);
-    if !fits(kind, size) {
+    if !fits(row, size) {
         return Look::Bad(Refusal::Length);
     }
     let end = 6 + size as usize;
     if left.len() < end {
         return Look::Bad(Refusal::Cut);
     }
-    look_in(m, past, kind, &left[6..end])
+    look_in(m, past, row, &left[6..end])
 }
 
 // A job's first refusal, or none.
@@ -110,7 +112,7 @@ pub(crate) fn examine(job: &[u8], m: usize) -> Answer
     }
 }
 
-// A run's cells go into the part of the cells that starts with them.
+// Words go into the part that starts with them.
 fn put_words(part: &mut [u32], words: &[u8], count: usize)
     requires { ⌜ 4 * count ≤ length (now words) ⌝ }
     requires { ⌜ count ≤ length (now part) ⌝ }
@@ -147,11 +149,13 @@ fn apply(
     payload: &[u8],
     regs: &mut [u32; 256],
     s: Settings,
+    host: &mut [u32],
     cells: &mut [u32],
 ) -> Settings
     requires { ⌜ Sound (length (now cells)) kind (now payload) ⌝ }
-    ensures { λ r. ⌜ contentWith (now (regs .exit)) r (now (cells .exit))
-        ≡ contentOf kind (now (payload .entry)) (contentWith (now (regs .entry)) s (now (cells .entry))) ⌝ }
+    requires { ⌜ length (now host) ≡ 5 ⌝ }
+    ensures { λ r. ⌜ contentWith (now (regs .exit)) r (now (host .exit)) (now (cells .exit))
+        ≡ contentOf kind (now (payload .entry)) (contentWith (now (regs .entry)) s (now (host .entry)) (now (cells .entry))) ⌝ }
 {
     match kind {
         Kind::Run => {
@@ -163,16 +167,26 @@ fn apply(
             s
         }
         Kind::Setup => settings_in(payload),
+        Kind::Host => {
+            put_words(host, payload, 5);
+            s
+        }
         Kind::End => s,
         Kind::Other => s,
     }
 }
 
 // The records of a job that has no refusal, carried out one after the other. It answers the settings.
-pub(crate) fn carry_out(job: &[u8], regs: &mut [u32; 256], cells: &mut [u32]) -> Settings
+pub(crate) fn carry_out(
+    job: &[u8],
+    regs: &mut [u32; 256],
+    host: &mut [u32],
+    cells: &mut [u32],
+) -> Settings
     requires { ⌜ refusalFrom (length (now job)) (length (now cells)) (now job) 0 nothingYet ≡ none ⌝ }
-    ensures { λ r. ⌜ contentWith (now (regs .exit)) r (now (cells .exit))
-        ≡ contentFrom (length (now (job .entry))) (now (job .entry)) (contentWith (now (regs .entry)) freshSettings (now (cells .entry))) ⌝ }
+    requires { ⌜ length (now host) ≡ 5 ⌝ }
+    ensures { λ r. ⌜ contentWith (now (regs .exit)) r (now (host .exit)) (now (cells .exit))
+        ≡ contentFrom (length (now (job .entry))) (now (job .entry)) (contentWith (now (regs .entry)) freshSettings (now (host .entry)) (now (cells .entry))) ⌝ }
 {
     let mut at = 0;
     let mut settings = Settings {
@@ -182,12 +196,13 @@ pub(crate) fn carry_out(job: &[u8], regs: &mut [u32; 256], cells: &mut [u32]) ->
     };
     loop {
         let left = &job[at..];
-        let kind = kind_by(number(left, 4, 2));
+        let row = row_by(number(left, 4, 2));
+        let kind = row.kind;
         if ends(kind) {
             return settings;
         }
         let end = 6 + number(left, 0, 4) as usize;
-        settings = apply(kind, &left[6..end], regs, settings, cells);
+        settings = apply(kind, &left[6..end], regs, settings, host, cells);
         at = at + end;
     }
 }

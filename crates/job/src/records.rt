@@ -1,20 +1,29 @@
-// The rules of a record: which kinds are known, their lengths, their order, and the space that a base has.
+// The rules of a record: the table of kinds with their order and lengths, and the space that a base has.
 ghost use mathlib.Core.Path.{_≡_};
-ghost use mathlib.Core.Bool.{true};
-ghost use Prim.Native.Nat.{_+_, _<_};
+ghost use Prim.Native.Nat.{_+_};
 ghost use lib.ListN.{length};
-ghost use Rattle.job.specs.Job.{kindBy, knownOf, fitsOf, endsOf, rankOf, pastOf, inOrder, risesOf, baseOf, countOf, withinOf, settingsFit, settingsIn};
+ghost use Rattle.job.specs.Job.{line, rowBy, knownOf, fitsOf, endsOf, pastOf, inOrder, risesOf, baseOf, countOf, withinOf, settingsFit, settingsIn};
+ghost use Rattle.job.specs.Inner.{Sized};
 use lent::number;
 use machine::Settings;
 use machine::good_settings;
 
-// A record's kind: 1 to 4, or any other.
+// A record's kind, or none.
 pub(crate) enum Kind {
     Run,
     Register,
     Setup,
+    Host,
     End,
     Other,
+}
+
+// A kind's place in the order, and the least and the most bytes of its payload, which go up by fours from the least.
+pub(crate) struct Row {
+    pub kind: Kind,
+    pub rank: u32,
+    pub least: u32,
+    pub most: u32,
 }
 
 // What the records so far leave to the order: the last kind's place, the end of the last cells, the least register that may come.
@@ -24,15 +33,28 @@ pub(crate) struct Past {
     pub next: u32,
 }
 
-pub(crate) fn kind_by(number: u32) -> Kind
-    ensures { λ r. ⌜ r ≡ kindBy number ⌝ }
+fn line(kind: Kind, rank: u32, least: u32, most: u32) -> Row
+    ensures { λ r. ⌜ r ≡ line kind rank least most ⌝ }
+{
+    Row {
+        kind,
+        rank,
+        least,
+        most,
+    }
+}
+
+// The table of kinds, by their numbers in their order.
+pub(crate) fn row_by(number: u32) -> Row
+    ensures { λ r. ⌜ r ≡ rowBy number ⌝ }
 {
     match number {
-        1 => Kind::Run,
-        2 => Kind::Register,
-        3 => Kind::Setup,
-        4 => Kind::End,
-        _ => Kind::Other,
+        1 => line(Kind::Run, 1, 6, 65538),
+        2 => line(Kind::Register, 2, 5, 5),
+        3 => line(Kind::Setup, 3, 5, 5),
+        5 => line(Kind::Host, 4, 20, 20),
+        4 => line(Kind::End, 5, 0, 0),
+        _ => line(Kind::Other, 6, 1, 0),
     }
 }
 
@@ -43,34 +65,22 @@ pub(crate) fn known(kind: Kind) -> bool
         Kind::Run => true,
         Kind::Register => true,
         Kind::Setup => true,
+        Kind::Host => true,
         Kind::End => true,
         Kind::Other => false,
     }
 }
 
-// A run is a base and one or more cells.
-fn fits_run(size: u32) -> bool
-    ensures { λ r. ⌜ r ≡ fitsOf Kind.Run size ⌝ }
+// Whether a payload has a length of its row.
+pub(crate) fn fits(row: Row, size: u32) -> bool
+    ensures { λ r. ⌜ r ≡ fitsOf row size ⌝ }
 {
-    if 6 <= size {
-        if size <= 65538 {
-            return (size - 2) % 4 == 0;
+    if row.least <= size {
+        if size <= row.most {
+            return (size - row.least) % 4 == 0;
         }
     }
     false
-}
-
-// Whether a payload of a kind has a right length.
-pub(crate) fn fits(kind: Kind, size: u32) -> bool
-    ensures { λ r. ⌜ r ≡ fitsOf kind size ⌝ }
-{
-    match kind {
-        Kind::Run => fits_run(size),
-        Kind::Register => size == 5,
-        Kind::Setup => size == 5,
-        Kind::End => size == 0,
-        Kind::Other => false,
-    }
 }
 
 // Whether a kind ends the job.
@@ -81,50 +91,40 @@ pub(crate) fn ends(kind: Kind) -> bool
         Kind::Run => false,
         Kind::Register => false,
         Kind::Setup => false,
+        Kind::Host => false,
         Kind::End => true,
         Kind::Other => true,
     }
 }
 
-// A kind's place in the order of kinds.
-fn rank(kind: Kind) -> u32
-    ensures { λ r. ⌜ r ≡ rankOf kind ⌝ }
+// Bases and registers rise, and the settings and the host's words come once.
+fn rises(past: Past, row: Row, payload: &[u8]) -> bool
+    ensures { λ r. ⌜ r ≡ risesOf past (row .kind) (row .rank) (now (payload .entry)) ⌝ }
 {
-    match kind {
-        Kind::Run => 1,
-        Kind::Register => 2,
-        Kind::Setup => 3,
-        Kind::End => 4,
-        Kind::Other => 5,
-    }
-}
-
-// Bases and registers rise, and the settings come once.
-fn rises(past: Past, kind: Kind, payload: &[u8]) -> bool
-    ensures { λ r. ⌜ r ≡ risesOf past kind (now (payload .entry)) ⌝ }
-{
+    let kind = row.kind;
     match kind {
         Kind::Run => past.end <= number(payload, 0, 2),
         Kind::Register => past.next <= number(payload, 0, 1),
-        Kind::Setup => past.rank < rank(kind),
+        Kind::Setup => past.rank < row.rank,
+        Kind::Host => past.rank < row.rank,
         Kind::End => true,
         Kind::Other => true,
     }
 }
 
 // Whether a record keeps the order.
-pub(crate) fn in_order(past: Past, kind: Kind, payload: &[u8]) -> bool
-    ensures { λ r. ⌜ r ≡ inOrder past kind (now (payload .entry)) ⌝ }
+pub(crate) fn in_order(past: Past, row: Row, payload: &[u8]) -> bool
+    ensures { λ r. ⌜ r ≡ inOrder past row (now (payload .entry)) ⌝ }
 {
-    if past.rank <= rank(kind) {
-        return rises(past, kind, payload);
+    if past.rank <= row.rank {
+        return rises(past, row, payload);
     }
     false
 }
 
 // The end of a run's cells.
 fn run_end(payload: &[u8]) -> u32
-    requires { ⌜ fitsOf Kind.Run (length (now payload)) ≡ true ⌝ }
+    requires { ⌜ Sized Kind.Run (length (now payload)) ⌝ }
     ensures { λ r. ⌜ r ≡ baseOf (now (payload .entry)) + countOf (now (payload .entry)) ⌝ }
 {
     number(payload, 0, 2) + ((payload.len() - 2) / 4) as u32
@@ -132,13 +132,14 @@ fn run_end(payload: &[u8]) -> u32
 
 // Whether a run of cells ends within the m cells.
 pub(crate) fn within(m: usize, kind: Kind, payload: &[u8]) -> bool
-    requires { ⌜ fitsOf kind (length (now payload)) ≡ true ⌝ }
+    requires { ⌜ Sized kind (length (now payload)) ⌝ }
     ensures { λ r. ⌜ r ≡ withinOf m kind (now (payload .entry)) ⌝ }
 {
     match kind {
         Kind::Run => run_end(payload) as usize <= m,
         Kind::Register => true,
         Kind::Setup => true,
+        Kind::Host => true,
         Kind::End => true,
         Kind::Other => true,
     }
@@ -163,30 +164,37 @@ pub(crate) fn settled(kind: Kind, payload: &[u8]) -> bool
         Kind::Run => true,
         Kind::Register => true,
         Kind::Setup => good_settings(settings_in(payload)),
+        Kind::Host => true,
         Kind::End => true,
         Kind::Other => true,
     }
 }
 
 // The past with this record in it.
-pub(crate) fn passed(past: Past, kind: Kind, payload: &[u8]) -> Past
-    requires { ⌜ fitsOf kind (length (now payload)) ≡ true ⌝ }
-    ensures { λ r. ⌜ r ≡ pastOf past kind (now (payload .entry)) ⌝ }
+pub(crate) fn passed(past: Past, row: Row, payload: &[u8]) -> Past
+    requires { ⌜ Sized (row .kind) (length (now payload)) ⌝ }
+    ensures { λ r. ⌜ r ≡ pastOf past (row .kind) (row .rank) (now (payload .entry)) ⌝ }
 {
-    let place = rank(kind);
+    let rank = row.rank;
+    let kind = row.kind;
     match kind {
         Kind::Run => Past {
-            rank: place,
+            rank,
             end: run_end(payload),
             next: past.next,
         },
         Kind::Register => Past {
-            rank: place,
+            rank,
             end: past.end,
             next: number(payload, 0, 1) + 1,
         },
         Kind::Setup => Past {
-            rank: place,
+            rank,
+            end: past.end,
+            next: past.next,
+        },
+        Kind::Host => Past {
+            rank,
             end: past.end,
             next: past.next,
         },

@@ -13,7 +13,7 @@ use lib.Seq.{length-sets, length-take-le}
 use lib.Dec.{leb, ltb, eqb}
 use borrow.Author.Tests.{lt-leb, le-ltb, le-leb, lt-ltb}
 use Rattle.effect.specs.Parts.{Write, Effect}
-use Rattle.machine.specs.State.{pcOf, InRange, State}
+use Rattle.machine.specs.State.{State, pcOf, stateWith, InRange}
 use Rattle.packed.specs.Packed.{unpackedOf, packedBound}
 use Rattle.packed.proofs.Laws.{packed-below, unpacked-packed}
 use Rattle.journal.specs.declared.Entry.{Entry}
@@ -35,7 +35,7 @@ Room s = 8 * (s .depth + 1) ≤ length (s .journal)
 
 -- s, but for its journal
 abbrev pub withJournal : State → List ℕ → State
-withJournal s j = record { regs = s .regs; settings = s .settings; depth = s .depth; cells = s .cells; journal = j }
+withJournal s j = stateWith (s .regs) (s .settings) (s .depth) (s .host) (s .cells) j
 
 -- the entry that e leaves on s, and its words
 abbrev pub left : Effect → State → Entry

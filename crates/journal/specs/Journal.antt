@@ -46,6 +46,7 @@ applyOf e s = record {
   regs = regsAfter e (s .regs);
   settings = settingsAfter e (s .regs);
   depth = s .depth + 1;
+  host = s .host;
   cells = cellsAfter e (s .cells);
   journal = sets (s .journal) (startOf (s .depth)) (eightOf (entryOf e (s .regs) (s .settings) (s .cells)));
 }
@@ -77,6 +78,7 @@ restoreOf e s = record {
   regs = regsBefore e (s .regs);
   settings = unpackedOf (e .settings);
   depth = s .depth - 1;
+  host = s .host;
   cells = cellsBefore e (s .cells);
   journal = s .journal;
 }

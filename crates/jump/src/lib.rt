@@ -33,8 +33,8 @@ fn is_wild(regs: &[u32; 256], cell: u32) -> bool
 
 // 121, BZ: PC gains se(imm) if Rn is 0; a wild jump is not done.
 pub fn branch(part: &mut [u32], regs: &mut [u32; 256], s: u32, cell: u32, told: &mut u32) -> u32
-    ensures { λ r. ⌜ ((cells : List ℕ) → length (now (regs .entry)) ≡ 256 → left (now (regs .exit)) cells (now (part .exit)) r (now (told .exit))
-        ≡ leftOf (now (told .entry)) (Bz (nOf cell) (immOf cell)) (before (now (regs .entry)) s cells (now (part .entry)))) ⌝ }
+    ensures { λ r. ⌜ ((host cells : List ℕ) → length (now (regs .entry)) ≡ 256 → left (now (regs .exit)) cells (now (part .exit)) r (now (told .exit))
+        ≡ leftOf (now (told .entry)) (Bz (nOf cell) (immOf cell)) (before (now (regs .entry)) s host cells (now (part .entry)))) ⌝ }
 {
     if is_wild(regs, cell) {
         *told = Told::WILD;

@@ -34,23 +34,24 @@ module _ {n m l i j k v x y : ℕ} {a b : Bool} {s : State} (known : Known n m l
   unfolding leftOf becameOf refusedBy
   faulted told f = rw (← known .m-is, ← known .l-is, ← known .x-is, ← known .y-is, ← known .a-is, ← known .b-is, f)
 
-  -- d says whether the store is illegal
-  module _ {d : Bool} (d-is : d ≡ illegalStore x v) (none : (a || b) ≡ false) where
-    pub barred : (told : ℕ) → (illegalLoad y || d) ≡ true → leftOf told (Ldst n m l) s ≡ leftOf told Illegal s
+  -- c and d say whether the load and the store are illegal
+  module _ {c d : Bool} (c-is : c ≡ illegalLoad y) (d-is : d ≡ illegalStore x v) (none : (a || b) ≡ false) where
+    pub barred : (told : ℕ) → (c || d) ≡ true → leftOf told (Ldst n m l) s ≡ leftOf told Illegal s
     unfolding leftOf becameOf refusedBy effectOf
     barred told e =
-        rw (← known .n-is, ← known .m-is, ← known .l-is, ← known .v-is, ← known .x-is, ← known .y-is, ← known .a-is, ← known .b-is, ← d-is, none, e)
+        rw (← known .n-is, ← known .m-is, ← known .l-is, ← known .v-is, ← known .x-is, ← known .y-is, ← known .a-is, ← known .b-is, ← c-is, ← d-is, none, e)
 
-    pub done : (told : ℕ) → (illegalLoad y || d) ≡ false → leftOf told (Ldst n m l) s ≡ doneBy told (transferOf i v x y s) s
+    pub done : (told : ℕ) → (c || d) ≡ false → leftOf told (Ldst n m l) s ≡ doneBy told (transferOf i v x y s) s
     unfolding leftOf becameOf refusedBy effectOf
     done told e =
-        rw (← known .n-is, ← known .m-is, ← known .l-is, ← known .v-is, ← known .x-is, ← known .y-is, ← known .a-is, ← known .b-is, ← d-is, none, e)
+        rw (← known .n-is, ← known .m-is, ← known .l-is, ← known .v-is, ← known .x-is, ← known .y-is, ← known .a-is, ← known .b-is, ← c-is, ← d-is, none, e)
 
-    -- in the last case the store is legal, and a pointer that is not special is within the cells
-    pub usable : (illegalLoad y || d) ≡ false
-        → (illegalStore x v ≡ false) × (x < firstSpecial → x < length (s .cells)) × (y < firstSpecial → y < length (s .cells))
+    -- in the last case load and store are legal, and a pointer that is not special is within the cells
+    pub usable : (c || d) ≡ false
+        → (illegalLoad y ≡ false) × (illegalStore x v ≡ false) × (x < firstSpecial → x < length (s .cells)) × (y < firstSpecial → y < length (s .cells))
     usable e = (
-      sym d-is ∙ or-right (illegalLoad y) d e,
+      sym c-is ∙ or-left c d e,
+      sym d-is ∙ or-right c d e,
       no-fault _ x (sym (known .b-is) ∙ or-right a b none),
       no-fault _ y (sym (known .a-is) ∙ or-left a b none),
     )

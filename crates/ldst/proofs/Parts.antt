@@ -2,22 +2,22 @@
 -- Assumes nothing.
 use Prim.Native.Nat.{ℕ, _+_, _≤_, _<_}
 use mathlib.Core.Path.{_≡_}
-use mathlib.Core.Bool.{Bool, true, false}
+use mathlib.Core.Bool.{Bool, true, false, _||_}
 use mathlib.Core.List.{List}
 use native.Mathlib.Nat.{add-zero}
 use native.Mathlib.Omega.{arith}
-use lib.Dec.{eqb}
+use lib.Dec.{ltb, eqb}
 use lib.ListN.{set}
-use borrow.Author.Tests.{lt-ltb, le-leb, eqb-true, eqb-false, leb-false}
+use borrow.Author.Tests.{lt-ltb, le-leb, eqb-true, eqb-false, leb-false, ltb-false}
 use Rattle.machine.specs.declared.Settings.{Settings}
 use Rattle.machine.specs.State.{State, firstSpecial, pcOf, writeIf}
-use Rattle.machine.specs.Addresses.{maskAddress, modeAddress}
-use Rattle.machine.proofs.Tests.{picked}
+use Rattle.machine.specs.Addresses.{maskAddress, modeAddress, hostAddress, hostLast}
+use Rattle.machine.proofs.Tests.{picked, or-left, or-right}
 use Rattle.packed.specs.Packed.{packedOf, unpackedOf}
 use Rattle.packed.proofs.Laws.{packed-unpacked}
 use Rattle.effect.specs.Operands.{nextOf, behind}
 use Rattle.effect.specs.Parts.{Write, Store, Effect, Onward, noWrite, made, onward, _then_, store, load}
-use Rattle.effect.specs.Effect.{illegalStore}
+use Rattle.effect.specs.Effect.{illegalLoad, illegalStore}
 use Rattle.journal.specs.Journal.{regsAfter, cellsAfter, entryOf, entered}
 use Rattle.carried.specs.Left.{left, before, doneBy}
 use Rattle.ldst.specs.declared.Kept.{Kept}
@@ -46,8 +46,14 @@ unfolding loadOf
 by-load pc p n v s stored = picked (λ (e : Effect). e ≡ both pc s (loadOf p n v) stored) (eqb p 0) _ _ (λ z. rw z) (λ z. rw z)
 
 by-parts : (n v x y : ℕ) (s : State) → illegalStore x v ≡ false
-    → transferOf n v x y s ≡ both (nextOf (s .regs)) (settingsOf x v (s .settings)) (loadOf y n (behind (s .cells) (s .settings) y)) (storeOf x v)
+    → transferOf n v x y s ≡ both (nextOf (s .regs)) (settingsOf x v (s .settings)) (loadOf y n (behind (s .cells) (s .settings) (s .host) y)) (storeOf x v)
 by-parts n v x y s legal = rw (by-store (nextOf (s .regs)) x v (s .settings) legal) (by-load _ y n _ _ _)
+
+-- a load past the mode that is legal is of one of the host's words
+pub of-host : (p : ℕ) → illegalLoad p ≡ false → modeAddress < p → (hostAddress ≤ p) × (p ≤ hostLast)
+of-host p legal past =
+    let h : (ltb p hostAddress || ltb hostLast p) ≡ false = rw (lt-ltb modeAddress p past) at legal in
+    (ltb-false p hostAddress (or-left (ltb p hostAddress) _ h), ltb-false hostLast p (or-right (ltb p hostAddress) _ h))
 
 -- what is kept of a place uses at most its own part of the entry
 pub uses-most : (k : Kept) (used : Bool) (i : ℕ) (l : List ℕ) (uses : ℕ) → k ≡ keptOf used i l uses → k .uses ≤ uses
@@ -56,8 +62,8 @@ uses-most k true i l uses e = rw e (omega arith)
 uses-most k false i l uses e = rw e (omega arith)
 
 -- a store and a load, each with what it kept, then their entry and the settings
-module _ (n v x y s told r got : ℕ) (settings after : Settings) (loaded stored : Kept) (regs cells part regs′ cells′ part′ : List ℕ) where
-  pub carried : s < 4294967296 → illegalStore x v ≡ false → settings ≡ unpackedOf s → got ≡ behind cells settings y
+module _ (n v x y s told r got : ℕ) (settings after : Settings) (loaded stored : Kept) (host regs cells part regs′ cells′ part′ : List ℕ) where
+  pub carried : s < 4294967296 → illegalStore x v ≡ false → settings ≡ unpackedOf s → got ≡ behind cells settings host y
       → stored ≡ keptOf (storeOf x v .used) (storeOf x v .address) cells 4
       → cells′ ≡ writeIf (storeOf x v .used) cells (storeOf x v .address) (storeOf x v .value)
       → loaded ≡ keptOf (loadOf y n got .used) (loadOf y n got .number) regs 1
@@ -73,7 +79,7 @@ module _ (n v x y s told r got : ℕ) (settings after : Settings) (loaded stored
         uses = loaded .uses + stored .uses;
       })
       → after ≡ settingsOf x v settings → r ≡ packedOf after
-      → left regs′ cells′ part′ r told ≡ doneBy told (transferOf n v x y (before regs s cells part)) (before regs s cells part)
+      → left regs′ cells′ part′ r told ≡ doneBy told (transferOf n v x y (before regs s host cells part)) (before regs s host cells part)
   unfolding regsAfter cellsAfter entryOf keptOf
   carried word legal unpacked got-is stored-is cells-are loaded-is regs-are part-is after-is packed =
       rw (
@@ -86,7 +92,7 @@ module _ (n v x y s told r got : ℕ) (settings after : Settings) (loaded stored
         stored-is,
         got-is,
         unpacked,
-        by-parts n v x y (before regs s cells part) legal,
+        by-parts n v x y (before regs s host cells part) legal,
         packed-unpacked s word,
       )
       (simp add-zero)

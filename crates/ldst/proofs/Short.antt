@@ -32,7 +32,7 @@ pub record Moved (n m l i j k next size : ℕ) (regs cells : List ℕ) : Type 0 
   pub next-is : next ≡ nextOf regs
   pub size-is : size ≡ min (length cells) firstSpecial
 
-module _ {n m l i j k next size : ℕ} {regs cells : List ℕ} (moved : Moved n m l i j k next size regs cells) (s told p : ℕ) (part part′ : List ℕ)
+module _ {n m l i j k next size : ℕ} {regs cells : List ℕ} (moved : Moved n m l i j k next size regs cells) (s told p : ℕ) (host part part′ : List ℕ)
     (long : length regs ≡ 256) (word : s < 4294967296) where
   abbrev on : List ℕ
   on = set regs 255 next
@@ -41,7 +41,7 @@ module _ {n m l i j k next size : ℕ} {regs cells : List ℕ} (moved : Moved n 
   reads a = rw (moved .next-is) (read regs long a)
 
   known : getD on j 0 < length cells → getD on k 0 < length cells
-      → Known n m l i j k (getD on i 0) (getD on j 0) (getD on k 0) false false (before regs s cells part)
+      → Known n m l i j k (getD on i 0) (getD on j 0) (getD on k 0) false false (before regs s host cells part)
   known x y = record {
     n-is = moved .n-is;
     m-is = moved .m-is;
@@ -54,11 +54,11 @@ module _ {n m l i j k next size : ℕ} {regs cells : List ℕ} (moved : Moved n 
   }
 
   pub loads : getD on j 0 ≡ 0 → p ≡ getD on k 0 → 0 < p → p < size → part′ ≡ entered part (entryBy (pcOf regs) s i (getD regs i 0) 0 0 1)
-      → left (set on i (getD cells p 0)) cells part′ s told ≡ leftOf told (Ldst n m l) (before regs s cells part)
+      → left (set on i (getD cells p 0)) cells part′ s told ≡ leftOf told (Ldst n m l) (before regs s host cells part)
   unfolding behind regsAfter cellsAfter entryOf
   loads zero p-is some below part-is =
       rw (
-        done (known (omega arith) (omega arith)) {d = false} (rw zero) refl told (rw (← p-is, le-ltb modeAddress p (omega arith))),
+        done (known (omega arith) (omega arith)) {c = false} {d = false} (rw (← p-is, le-ltb modeAddress p (omega arith))) (rw zero) refl told refl,
         part-is,
         zero,
         ← p-is,
@@ -70,13 +70,13 @@ module _ {n m l i j k next size : ℕ} {regs cells : List ℕ} (moved : Moved n 
       )
 
   pub stores : (getD on j 0 ≡ 0 → ⊥) → getD on k 0 ≡ 0 → p ≡ getD on j 0 → p < size → part′ ≡ entered part (entryBy (pcOf regs) s 0 0 (getD on j 0) (getD cells p 0) 4)
-      → left on (set cells p (getD on i 0)) part′ s told ≡ leftOf told (Ldst n m l) (before regs s cells part)
+      → left on (set cells p (getD on i 0)) part′ s told ≡ leftOf told (Ldst n m l) (before regs s host cells part)
   unfolding regsAfter cellsAfter entryOf
   stores some zero p-is below part-is =
       let no-mask = ne-eqb p maskAddress (λ e. omega arith) in
       let no-mode = ne-eqb p modeAddress (λ e. omega arith) in
       rw (
-        done (known (omega arith) (omega arith)) {d = false} (rw (← p-is, no-mask, no-mode, lt-leb firstSpecial p (omega arith))) refl told (rw zero),
+        done (known (omega arith) (omega arith)) {c = false} {d = false} (rw zero) (rw (← p-is, no-mask, no-mode, lt-leb firstSpecial p (omega arith))) refl told refl,
         part-is,
         zero,
         ← p-is,

@@ -33,7 +33,7 @@ keptOf used i l uses = record { number = ifUsed used i; old = ifUsed used (getD 
 
 -- LDST with its operands' values, where both pointers can be used
 abbrev pub transferOf : ℕ → ℕ → ℕ → ℕ → State → Effect
-transferOf n v x y s = still s then store x v then load y n (behind (s .cells) (s .settings) y)
+transferOf n v x y s = still s then store x v then load y n (behind (s .cells) (s .settings) (s .host) y)
 
 -- the entry of an LDST, by its words but b's, which it never has
 abbrev pub entryBy : ℕ → ℕ → ℕ → ℕ → ℕ → ℕ → ℕ → Entry

@@ -7,7 +7,7 @@ ghost use Rattle.cell.specs.Cell.{nOf, mOf, lOf};
 ghost use Rattle.machine.specs.State.{firstSpecial, writeIf};
 ghost use Rattle.effect.specs.Action.{Ldst};
 ghost use Rattle.effect.specs.Operands.{nextOf, behind};
-ghost use Rattle.effect.specs.Effect.{illegalStore};
+ghost use Rattle.effect.specs.Effect.{illegalLoad, illegalStore};
 ghost use Rattle.carried.specs.Left.{left, leftOf, before, doneBy};
 ghost use Rattle.ldst.specs.Inner.{entryBy, loadOf, storeOf, settingsOf, keptOf, transferOf};
 use carried::Told;
@@ -26,6 +26,16 @@ use machine::index_of;
 use packed::pack;
 use packed::unpack;
 
+// Whether a load from p is illegal.
+fn illegal_load(p: u32) -> bool
+    ensures { λ r. ⌜ r ≡ illegalLoad p ⌝ }
+{
+    if p <= Address::MODE {
+        return false;
+    }
+    (p < Address::HOST) | (Address::HOST_LAST < p)
+}
+
 // Whether a store of v at p is illegal.
 fn illegal_store(p: u32, v: u32) -> bool
     ensures { λ r. ⌜ r ≡ illegalStore p v ⌝ }
@@ -43,9 +53,9 @@ fn illegal_store(p: u32, v: u32) -> bool
 }
 
 // The value behind a load pointer.
-fn behind_pointer(cells: &[u32], s: Settings, p: u32) -> u32
-    requires { ⌜ (p < firstSpecial → p < length (now cells)) ⌝ }
-    ensures { λ r. ⌜ r ≡ behind (now (cells .entry)) s p ⌝ }
+fn behind_pointer(cells: &[u32], s: Settings, host: &[u32; 5], p: u32) -> u32
+    requires { ⌜ (p < firstSpecial → p < length (now cells)) × (illegalLoad p ≡ false) ⌝ }
+    ensures { λ r. ⌜ r ≡ behind (now (cells .entry)) s (now (host .entry)) p ⌝ }
 {
     if p < Address::FLAGS {
         return cells[p as usize];
@@ -56,7 +66,10 @@ fn behind_pointer(cells: &[u32], s: Settings, p: u32) -> u32
     if p == Address::MASK {
         return s.mask;
     }
-    s.mode
+    if p == Address::MODE {
+        return s.mode;
+    }
+    host[(p - Address::HOST) as usize]
 }
 
 // The settings after a store of v at p: the mask and the mode have addresses.
@@ -145,21 +158,22 @@ fn store_and_load(
     part: &mut [u32],
     regs: &mut [u32; 256],
     cells: &mut [u32],
+    host: &[u32; 5],
     s: u32,
     n: u32,
     v: u32,
     x: u32,
     y: u32,
 ) -> u32
-    requires { ⌜ (n < 256) × (illegalStore x v ≡ false) ⌝ }
+    requires { ⌜ (n < 256) × (illegalLoad y ≡ false) × (illegalStore x v ≡ false) ⌝ }
     requires { ⌜ (x < firstSpecial → x < length (now cells)) × (y < firstSpecial → y < length (now cells)) ⌝ }
     ensures { λ r. ⌜ ((told : ℕ) → left (now (regs .exit)) (now (cells .exit)) (now (part .exit)) r told
-        ≡ doneBy told (transferOf n v x y (before (now (regs .entry)) s (now (cells .entry)) (now (part .entry))))
-        (before (now (regs .entry)) s (now (cells .entry)) (now (part .entry)))) ⌝ }
+        ≡ doneBy told (transferOf n v x y (before (now (regs .entry)) s (now (host .entry)) (now (cells .entry)) (now (part .entry))))
+        (before (now (regs .entry)) s (now (host .entry)) (now (cells .entry)) (now (part .entry)))) ⌝ }
 {
     let pc = regs[255];
     let settings = unpack(s);
-    let got = behind_pointer(cells, settings, y);
+    let got = behind_pointer(cells, settings, host, y);
     let stored = store(cells, x, v);
     let loaded = load(regs, y, n, got);
     let entry = Entry {
@@ -181,12 +195,13 @@ fn transfer_any(
     part: &mut [u32],
     regs: &mut [u32; 256],
     cells: &mut [u32],
+    host: &[u32; 5],
     s: u32,
     cell: u32,
     told: &mut u32,
 ) -> u32
     ensures { λ r. ⌜ left (now (regs .exit)) (now (cells .exit)) (now (part .exit)) r (now (told .exit))
-        ≡ leftOf (now (told .entry)) (Ldst (nOf cell) (mOf cell) (lOf cell)) (before (now (regs .entry)) s (now (cells .entry)) (now (part .entry))) ⌝ }
+        ≡ leftOf (now (told .entry)) (Ldst (nOf cell) (mOf cell) (lOf cell)) (before (now (regs .entry)) s (now (host .entry)) (now (cells .entry)) (now (part .entry))) ⌝ }
 {
     let n = n_of(cell);
     let v = operand(regs, n);
@@ -196,10 +211,10 @@ fn transfer_any(
         *told = Told::FAULT;
         return s;
     }
-    if (Address::MODE < y) | illegal_store(x, v) {
+    if illegal_load(y) | illegal_store(x, v) {
         return illegal(part, regs, s, told);
     }
-    store_and_load(part, regs, cells, s, n, v, x, y)
+    store_and_load(part, regs, cells, host, s, n, v, x, y)
 }
 
 // Cells that are below the special addresses.
@@ -249,12 +264,13 @@ pub fn transfer(
     part: &mut [u32],
     regs: &mut [u32; 256],
     cells: &mut [u32],
+    host: &[u32; 5],
     s: u32,
     cell: u32,
     told: &mut u32,
 ) -> u32
     ensures { λ r. ⌜ (length (now (regs .entry)) ≡ 256 → left (now (regs .exit)) (now (cells .exit)) (now (part .exit)) r (now (told .exit))
-        ≡ leftOf (now (told .entry)) (Ldst (nOf cell) (mOf cell) (lOf cell)) (before (now (regs .entry)) s (now (cells .entry)) (now (part .entry)))) ⌝ }
+        ≡ leftOf (now (told .entry)) (Ldst (nOf cell) (mOf cell) (lOf cell)) (before (now (regs .entry)) s (now (host .entry)) (now (cells .entry)) (now (part .entry)))) ⌝ }
 {
     let n = n_of(cell);
     let i = n as usize;
@@ -286,5 +302,5 @@ pub fn transfer(
         }
     }
     regs[255] = pc;
-    transfer_any(part, regs, cells, s, cell, told)
+    transfer_any(part, regs, cells, host, s, cell, told)
 }

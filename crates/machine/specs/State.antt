@@ -1,4 +1,4 @@
--- What can be seen of a machine with its cells and journal: document 01, 'The machine and its boundary'.
+-- What can be seen of a machine with its cells and journal: document 01, 'The machine and its boundary'; the host's words: document 02, 2026-05.
 use Prim.Native.Nat.{ℕ, _/_, _<_, min}
 use mathlib.Core.Bool.{Bool, true, false, _||_}
 use mathlib.Core.List.{List}
@@ -7,11 +7,13 @@ use lib.ListN.{replicate, length, getD, set}
 use Rattle.machine.specs.declared.Settings.{Settings}
 use Rattle.machine.specs.declared.Machine.{Machine}
 
--- All that there is to see: 256 registers, flags with mask and mode, how many entries are in use, the lent cells and the lent journal.
+-- All that there is to see: 256 registers, flags with mask and mode, how many entries are in use, the host's five words, the lent cells and the
+-- lent journal.
 pub record State : Type 0 where
   pub regs : List ℕ
   pub settings : Settings
   pub depth : ℕ
+  pub host : List ℕ
   pub cells : List ℕ
   pub journal : List ℕ
 
@@ -27,20 +29,27 @@ flagsBound = 512
 abbrev pub firstSpecial : ℕ
 firstSpecial = 0xFFFF0000
 
+-- registers, settings, depth, the host's words, cells and journal, each by itself
+abbrev pub stateWith : List ℕ → Settings → ℕ → List ℕ → List ℕ → List ℕ → State
+stateWith regs s depth host cells journal = record { regs = regs; settings = s; depth = depth; host = host; cells = cells; journal = journal }
+
 -- a machine with what the host lends it
 abbrev pub stateOf : Machine → List ℕ → List ℕ → State
-stateOf m cells journal = record { regs = m .regs; settings = m .settings; depth = m .depth; cells = cells; journal = journal }
+stateOf m cells journal = stateWith (m .regs) (m .settings) (m .depth) (m .host) cells journal
 
--- registers, settings, depth, cells and journal, each by itself
-abbrev pub stateWith : List ℕ → Settings → ℕ → List ℕ → List ℕ → State
-stateWith regs s depth cells journal = record { regs = regs; settings = s; depth = depth; cells = cells; journal = journal }
+-- the machine in a state
+abbrev pub machineOf : State → Machine
+machineOf s = record { regs = s .regs; settings = s .settings; depth = s .depth; host = s .host }
 
--- the settings and the machine that nothing was done to: all 0, but for mode 3
+-- the settings, the host's words and the machine that nothing was done to: all 0, but for mode 3
 abbrev pub freshSettings : Settings
 freshSettings = record { flags = 0; mask = 0; mode = 3 }
 
+abbrev pub freshHost : List ℕ
+freshHost = replicate 5 0
+
 unfoldable pub freshMachine : Machine
-freshMachine = record { regs = replicate 256 0; settings = freshSettings; depth = 0 }
+freshMachine = record { regs = replicate 256 0; settings = freshSettings; depth = 0; host = freshHost }
 
 -- the largest M
 abbrev pub mostCells : ℕ

@@ -1,4 +1,4 @@
-// The machine by value, 256 registers, settings and depth; what a call can say; what is asked of M, settings and journal.
+// The machine by value, 256 registers, settings, depth and the host's words; what a call can say; what is asked of M, settings and journal.
 ghost use mathlib.Core.Path.{_≡_};
 ghost use mathlib.Core.Bool.{not};
 ghost use Rattle.machine.specs.State.{freshMachine, badCells, badSettings, entriesIn};
@@ -13,6 +13,11 @@ impl Address {
     pub const MASK: u32 = 0xFFFF0001;
 
     pub const MODE: u32 = 0xFFFF0002;
+
+    // The first and the last of the host's words.
+    pub const HOST: u32 = 0xFFFF0300;
+
+    pub const HOST_LAST: u32 = 0xFFFF0304;
 }
 
 // The flags, the trap mask and the rounding mode.
@@ -33,6 +38,7 @@ pub struct Machine {
     pub regs: [u32; 256],
     pub settings: Settings,
     pub depth: u32,
+    pub host: [u32; 5],
 }
 
 impl Machine {
@@ -53,6 +59,7 @@ impl Machine {
                 mode: 3,
             },
             depth: 0,
+            host: [0u32; 5],
         }
     }
 }

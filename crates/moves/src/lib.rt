@@ -59,8 +59,8 @@ fn keep_two(part: &mut [u32], regs: &mut [u32; 256], s: u32, a: u32, b: u32)
 
 // 0, CPSWP: Rl gets Rn, then Rn gets Rm.
 pub fn swap(part: &mut [u32], regs: &mut [u32; 256], s: u32, cell: u32) -> u32
-    ensures { λ r. ⌜ ((cells : List ℕ) (told : ℕ) → length (now (regs .entry)) ≡ 256 → left (now (regs .exit)) cells (now (part .exit)) r told
-        ≡ leftOf told (Cpswp (nOf cell) (mOf cell) (lOf cell)) (before (now (regs .entry)) s cells (now (part .entry)))) ⌝ }
+    ensures { λ r. ⌜ ((host cells : List ℕ) (told : ℕ) → length (now (regs .entry)) ≡ 256 → left (now (regs .exit)) cells (now (part .exit)) r told
+        ≡ leftOf told (Cpswp (nOf cell) (mOf cell) (lOf cell)) (before (now (regs .entry)) s host cells (now (part .entry)))) ⌝ }
 {
     let n = n_of(cell);
     let l = l_of(cell);
@@ -89,8 +89,8 @@ fn value_of(how: Loaded, x: u32, imm: u16) -> u32
 
 // 3 to 7: Rn gets a value that imm makes.
 pub fn load(part: &mut [u32], regs: &mut [u32; 256], s: u32, cell: u32, how: Loaded) -> u32
-    ensures { λ r. ⌜ ((cells : List ℕ) (told : ℕ) → length (now (regs .entry)) ≡ 256 → left (now (regs .exit)) cells (now (part .exit)) r told
-        ≡ leftOf told (Put (nOf cell) (loadedOf how (nOf cell) (immOf cell))) (before (now (regs .entry)) s cells (now (part .entry)))) ⌝ }
+    ensures { λ r. ⌜ ((host cells : List ℕ) (told : ℕ) → length (now (regs .entry)) ≡ 256 → left (now (regs .exit)) cells (now (part .exit)) r told
+        ≡ leftOf told (Put (nOf cell) (loadedOf how (nOf cell) (immOf cell))) (before (now (regs .entry)) s host cells (now (part .entry)))) ⌝ }
 {
     let n = keep_n(part, regs, s, cell);
     let i = n as usize;
@@ -108,8 +108,8 @@ fn upper_of(v: u32) -> u16
 
 // 54 and 107, SPLIT and FSPLIT: Rm gets the lower half of Rn, then Rl the upper one, each extended.
 pub fn split(part: &mut [u32], regs: &mut [u32; 256], s: u32, cell: u32, by: Extension) -> u32
-    ensures { λ r. ⌜ ((cells : List ℕ) (told : ℕ) → length (now (regs .entry)) ≡ 256 → left (now (regs .exit)) cells (now (part .exit)) r told
-        ≡ leftOf told (Split by (nOf cell) (mOf cell) (lOf cell)) (before (now (regs .entry)) s cells (now (part .entry)))) ⌝ }
+    ensures { λ r. ⌜ ((host cells : List ℕ) (told : ℕ) → length (now (regs .entry)) ≡ 256 → left (now (regs .exit)) cells (now (part .exit)) r told
+        ≡ leftOf told (Split by (nOf cell) (mOf cell) (lOf cell)) (before (now (regs .entry)) s host cells (now (part .entry)))) ⌝ }
 {
     let m = m_of(cell);
     let l = l_of(cell);
@@ -125,8 +125,8 @@ pub fn split(part: &mut [u32], regs: &mut [u32; 256], s: u32, cell: u32, by: Ext
 
 // 122, INT: nothing but that it is told.
 pub fn interrupt(part: &mut [u32], regs: &mut [u32; 256], s: u32, cell: u32, told: &mut u32) -> u32
-    ensures { λ r. ⌜ ((cells : List ℕ) → length (now (regs .entry)) ≡ 256 → left (now (regs .exit)) cells (now (part .exit)) r (now (told .exit))
-        ≡ leftOf (now (told .entry)) (Int (nOf cell) (immOf cell)) (before (now (regs .entry)) s cells (now (part .entry)))) ⌝ }
+    ensures { λ r. ⌜ ((host cells : List ℕ) → length (now (regs .entry)) ≡ 256 → left (now (regs .exit)) cells (now (part .exit)) r (now (told .exit))
+        ≡ leftOf (now (told .entry)) (Int (nOf cell) (immOf cell)) (before (now (regs .entry)) s host cells (now (part .entry)))) ⌝ }
 {
     move_on(part, regs, s);
     *told = Told::INT;

@@ -34,10 +34,10 @@ pub reads : (regs : List ℕ) {mid : List ℕ} → length regs ≡ 256 → mid �
 reads regs long on {i = i} e = rw (on, e) (sym (read regs long i))
 
 -- and where two values were read so, and register n and the flags are written then, it is all that the operation leaves
-module _ (s : ℕ) (regs part cells : List ℕ) (op : Op) (x y : Value) {i n a b : ℕ} {part' mid : List ℕ} (long : length regs ≡ 256) (small : s < 2 ^ 32)
-    (kept : Kept i n s part part' regs mid) (x-is : valueOf (before regs s cells part) x ≡ a) (y-is : valueOf (before regs s cells part) y ≡ b) where
+module _ (s : ℕ) (regs part host cells : List ℕ) (op : Op) (x y : Value) {i n a b : ℕ} {part' mid : List ℕ} (long : length regs ≡ 256) (small : s < 2 ^ 32)
+    (kept : Kept i n s part part' regs mid) (x-is : valueOf (before regs s host cells part) x ≡ a) (y-is : valueOf (before regs s host cells part) y ≡ b) where
   pub operated : {regs' : List ℕ} {told told' r : ℕ} → Operated (writtenOf op a b (getD mid n 0) (unpackedOf s .flags)) n s mid regs' told told' r
-      → left regs' cells part' r told' ≡ leftOf told (Operate op i x y) (before regs s cells part)
+      → left regs' cells part' r told' ≡ leftOf told (Operate op i x y) (before regs s host cells part)
   unfolding leftOf becameOf refusedBy effectOf regsAfter cellsAfter entryOf
   operated o =
       let w : Written = writtenOf op a b (getD mid n 0) (unpackedOf s .flags) in

@@ -38,8 +38,8 @@ pub fn registers(
     told: &mut u32,
     op: Op,
 ) -> u32
-    ensures { λ r. ⌜ ((cells : List ℕ) → length (now (regs .entry)) ≡ 256 → left (now (regs .exit)) cells (now (part .exit)) r (now (told .exit))
-        ≡ leftOf (now (told .entry)) (Operate op (nOf cell) (R (mOf cell)) (R (lOf cell))) (before (now (regs .entry)) s cells (now (part .entry)))) ⌝ }
+    ensures { λ r. ⌜ ((host cells : List ℕ) → length (now (regs .entry)) ≡ 256 → left (now (regs .exit)) cells (now (part .exit)) r (now (told .exit))
+        ≡ leftOf (now (told .entry)) (Operate op (nOf cell) (R (mOf cell)) (R (lOf cell))) (before (now (regs .entry)) s host cells (now (part .entry)))) ⌝ }
 {
     let n = keep_n(part, regs, s, cell);
     let m = m_of(cell) as usize;
@@ -58,8 +58,8 @@ pub fn immediate(
     told: &mut u32,
     op: Op,
 ) -> u32
-    ensures { λ r. ⌜ ((cells : List ℕ) → length (now (regs .entry)) ≡ 256 → left (now (regs .exit)) cells (now (part .exit)) r (now (told .exit))
-        ≡ leftOf (now (told .entry)) (Operate op (nOf cell) (R (nOf cell)) (Extended Se (immOf cell))) (before (now (regs .entry)) s cells (now (part .entry)))) ⌝ }
+    ensures { λ r. ⌜ ((host cells : List ℕ) → length (now (regs .entry)) ≡ 256 → left (now (regs .exit)) cells (now (part .exit)) r (now (told .exit))
+        ≡ leftOf (now (told .entry)) (Operate op (nOf cell) (R (nOf cell)) (Extended Se (immOf cell))) (before (now (regs .entry)) s host cells (now (part .entry)))) ⌝ }
 {
     let n = keep_n(part, regs, s, cell);
     let i = n as usize;
@@ -76,8 +76,8 @@ pub fn turned(
     told: &mut u32,
     op: Op,
 ) -> u32
-    ensures { λ r. ⌜ ((cells : List ℕ) → length (now (regs .entry)) ≡ 256 → left (now (regs .exit)) cells (now (part .exit)) r (now (told .exit))
-        ≡ leftOf (now (told .entry)) (Operate op (nOf cell) (Extended Se (immOf cell)) (R (nOf cell))) (before (now (regs .entry)) s cells (now (part .entry)))) ⌝ }
+    ensures { λ r. ⌜ ((host cells : List ℕ) → length (now (regs .entry)) ≡ 256 → left (now (regs .exit)) cells (now (part .exit)) r (now (told .exit))
+        ≡ leftOf (now (told .entry)) (Operate op (nOf cell) (Extended Se (immOf cell)) (R (nOf cell))) (before (now (regs .entry)) s host cells (now (part .entry)))) ⌝ }
 {
     let n = keep_n(part, regs, s, cell);
     let i = n as usize;

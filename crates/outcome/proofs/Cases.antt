@@ -5,7 +5,7 @@ use Prim.Native.Nat.{ℕ, _<_, _≤_}
 use borrow.Author.Tests.{lt-ltb, le-ltb}
 use lib.ListN.{length}
 use Rattle.machine.specs.declared.Kind.the-variants.{Plain}
-use Rattle.machine.specs.State.{stateOf}
+use Rattle.machine.specs.State.{freshHost, stateOf}
 use Rattle.call.specs.Calls.{runOf}
 use Rattle.job.specs.declared.Loaded.{Loaded}
 use Rattle.job.specs.declared.Answer.the-variants.{Done, Refused}
@@ -22,7 +22,7 @@ module _ (input cells journal : List ℕ) where
   unfolding outcomeOf
   outcome-long h = rw (lt-ltb mostInput (length input) h)
 
-  module _ (l : Loaded) (left : List ℕ) (h : length input ≤ mostInput) (e : loadWith l left ≡ loadOf input cells) where
+  module _ (l : Loaded) (left : List ℕ) (h : length input ≤ mostInput) (e : loadWith l left ≡ loadOf input freshHost cells) where
     pub outcome-refused : (why : Refusal) (offset : ℕ) → l .answer ≡ Refused why offset
         → outcomeOf input cells journal ≡ refusedTo (numberOf why) offset left journal
     unfolding outcomeOf

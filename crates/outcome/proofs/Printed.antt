@@ -16,7 +16,7 @@ use Rattle.journal.specs.Journal.{regsAfter, cellsAfter, settingsAfter, entryOf
 use Rattle.step.specs.Step.{refusalOf, effectIn, courseOf, stepOf}
 use Rattle.call.specs.Calls.{runFrom, checkOf}
 use Rattle.lent.specs.Little.{littleOf, numberAt}
-use Rattle.job.specs.Job.{kindBy, wordsOf, inOrder, fateOf, refusalFrom, contentFrom, refusalIn}
+use Rattle.job.specs.Job.{rowBy, wordsOf, inOrder, fateOf, refusalFrom, contentFrom, refusalIn}
 use Rattle.outcome.specs.Outcome.{outcomeOf}
 use Rattle.outcome.specs.Told.{registersText, ranText, textOf}
 use Rattle.outcome.specs.Printed.{printedJob}
@@ -26,5 +26,5 @@ unfolding digits decimal fateOf refusalFrom refusalIn outcomeOf textOf
 empty-input = refl
 
 pub printed-job : textOf printedJob ≡ bytes "exit 1 steps 3 pc 4294901763 flags 256\nR1 5\n"
-unfolding orElse seOf exOf writtenOf opOf askedOf legal immediate formOf decodeOf digits decimal actionOf operandOf behind flagsOf effectOf refusedBy capacityOf entriesIn freshMachine regsAfter cellsAfter settingsAfter entryOf refusalOf effectIn courseOf stepOf runFrom checkOf littleOf numberAt kindBy wordsOf inOrder fateOf refusalFrom contentFrom refusalIn registersText ranText outcomeOf textOf printedJob
+unfolding orElse seOf exOf writtenOf opOf askedOf legal immediate formOf decodeOf digits decimal actionOf operandOf behind flagsOf effectOf refusedBy capacityOf entriesIn freshMachine regsAfter cellsAfter settingsAfter entryOf refusalOf effectIn courseOf stepOf runFrom checkOf littleOf numberAt rowBy wordsOf inOrder fateOf refusalFrom contentFrom refusalIn registersText ranText outcomeOf textOf printedJob
 printed-job = refl

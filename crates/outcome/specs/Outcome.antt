@@ -1,4 +1,4 @@
--- What becomes of a job that `runjob` runs: document 01, 'Lines and jobs', its last part.
+-- What becomes of a job that `runjob` runs: document 01, 'Lines and jobs', its last part; the host's words: document 02, 2026-05.
 use mathlib.Core.Bool.{cond}
 use mathlib.Core.List.{List}
 use Prim.Native.Nat.{ℕ}
@@ -6,7 +6,7 @@ use lib.Dec.{ltb, eqb}
 use lib.ListN.{length}
 use Rattle.machine.specs.declared.Machine.{Machine}
 use Rattle.machine.specs.declared.Kind.the-variants.{Plain}
-use Rattle.machine.specs.State.{freshMachine, stateOf}
+use Rattle.machine.specs.State.{freshHost, freshMachine, machineOf, stateOf}
 use Rattle.machine.specs.Stops.{Said}
 use Rattle.intake.specs.Intake.{mostInput}
 use Rattle.call.specs.Calls.{Out, runOf}
@@ -38,7 +38,7 @@ refusedTo number offset cells journal = record { end = refused number offset; ma
 abbrev pub ranTo : Out → Outcome
 ranTo o = record {
   end = ran (o .said) (o .count);
-  machine = record { regs = o .state .regs; settings = o .state .settings; depth = o .state .depth };
+  machine = machineOf (o .state);
   cells = o .state .cells;
   journal = o .state .journal;
 }
@@ -49,8 +49,8 @@ loadedTo l journal =
     cond (eqb (l .said .number) 0) (ranTo (runOf Plain budget (stateOf (l .machine) (l .cells) journal)))
     (refusedTo (l .said .number) (l .said .offset) (l .cells) journal)
 
--- a longer input is refused with 50 at 32768, whatever it holds
+-- a longer input is refused with 50 at 32768, whatever it holds; the host's words are zeros
 unfoldable pub outcomeOf : List ℕ → List ℕ → List ℕ → Outcome
 outcomeOf input cells journal =
     cond (ltb mostInput (length input)) (refusedTo 50 mostInput cells journal)
-    (loadedTo (loadOf input cells) journal)
+    (loadedTo (loadOf input freshHost cells) journal)

@@ -62,7 +62,7 @@ pub fn run_job(input: &[u8], cells: &mut [u32], journal: &mut [u32]) -> Outcome
     if Sizes::INPUT < input.len() {
         return refused(50, Sizes::INPUT as u64);
     }
-    let loaded = job::load(input, cells);
+    let loaded = job::load(input, [0u32; 5], cells);
     let answer = loaded.answer;
     match answer {
         Answer::Refused { why, offset } => refused(why.number(), offset as u64),

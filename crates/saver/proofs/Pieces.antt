@@ -16,7 +16,7 @@ use Rattle.machine.proofs.Tests.{picked}
 use Rattle.text.proofs.Adds.{sets-append}
 use Rattle.machine.specs.State.{mostCells}
 use Rattle.lent.specs.Little.{bytesOf}
-use Rattle.saver.specs.Saving.{recordOf, wordBytes, runRecord, runsFrom, valueRecord, valuesFrom, freshOf, setupOf}
+use Rattle.saver.specs.Saving.{recordOf, wordBytes, runRecord, runsFrom, valueRecord, valuesFrom, freshOf, setupOf, hostOf}
 use Rattle.saver.specs.Inner.{Stored, Fits, spanOf}
 use Rattle.lent.proofs.Numbers.{length-bytes}
 
@@ -188,6 +188,17 @@ setup-record s h = rw h
 
 pub setup-payload : (s : Settings) → length (bytesOf 2 (s .flags) ++ bytesOf 2 (s .mask) ++ bytesOf 1 (s .mode)) ≡ 5
 setup-payload s = simp (length-append, length-bytes)
+
+-- the host's words are a record of 26 bytes
+pub host-record : (words : List ℕ) → hostOf words ≡ recordOf 5 (wordBytes words)
+unfolding hostOf
+host-record words = refl
+
+pub host-payload : (words : List ℕ) → length words ≡ 5 → length (wordBytes words) ≡ 20
+host-payload words h = length-word-bytes words ∙ rw h
+
+pub host-length : (words : List ℕ) → length words ≡ 5 → length (hostOf words) ≡ 26
+host-length words h = ap length (host-record words) ∙ length-record 5 (wordBytes words) ∙ ap (λ (n : ℕ). 6 + n) (host-payload words h)
 
 pub values-turn : (regs : List ℕ) (i : ℕ) → i < length regs → Parts (valuesFrom i (drop i regs)) (valueRecord i (getD regs i 0)) (valuesFrom (i + 1) (drop (i + 1) regs))
 unfolding valuesFrom

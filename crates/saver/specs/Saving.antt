@@ -1,4 +1,4 @@
--- The job that a machine and its cells are saved as: document 01, 'Lines and jobs', from 'Saving writes' on.
+-- The job that a machine and its cells are saved as: document 01, 'Lines and jobs', from 'Saving writes' on; kind 5: document 02, 2026-05.
 use Prim.Native.Nat.{ℕ, _+_}
 use mathlib.Core.Bool.{Bool, cond, _&&_}
 use mathlib.Core.List.{List, [], _∷_, _++_}
@@ -45,9 +45,13 @@ freshOf s = eqb (s .flags) 0 && eqb (s .mask) 0 && eqb (s .mode) 3
 unfoldable pub setupOf : Settings → List ℕ
 setupOf s = cond (freshOf s) [] (recordOf 3 (bytesOf 2 (s .flags) ++ bytesOf 2 (s .mask) ++ bytesOf 1 (s .mode)))
 
+-- kind 5: the host's words, always
+unfoldable pub hostOf : List ℕ → List ℕ
+hostOf words = recordOf 5 (wordBytes words)
+
 -- the whole job, ended by kind 4
 unfoldable pub savedOf : Machine → List ℕ → List ℕ
-savedOf m cells = runsFrom 0 [] cells ++ valuesFrom 0 (m .regs) ++ setupOf (m .settings) ++ recordOf 4 []
+savedOf m cells = runsFrom 0 [] cells ++ valuesFrom 0 (m .regs) ++ setupOf (m .settings) ++ hostOf (m .host) ++ recordOf 4 []
 
 -- all that a save leaves: the room, and what it says: a refusal's number and 0, or 0 and the length
 pub record Save : Type 0 where

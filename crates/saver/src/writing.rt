@@ -6,7 +6,7 @@ ghost use Prim.Native.Nat.{_+_, _^_, _≤_, _<_};
 ghost use lib.ListN.{length, drop};
 ghost use Rattle.machine.specs.State.{mostCells};
 ghost use Rattle.lent.specs.Little.{bytesOf};
-ghost use Rattle.saver.specs.Saving.{wordBytes, runRecord, runsFrom, valueRecord, valuesFrom, freshOf, setupOf, savedOf};
+ghost use Rattle.saver.specs.Saving.{wordBytes, runRecord, runsFrom, valueRecord, valuesFrom, freshOf, setupOf, hostOf, savedOf};
 ghost use Rattle.saver.specs.Inner.{Stored, Fits, spanOf};
 use machine::Machine;
 use machine::Settings;
@@ -31,7 +31,7 @@ fn put_head(room: &mut [u8], at: usize, size: u32, kind: u32) -> usize
     put(room, next, 2, kind)
 }
 
-// A run's cells.
+// Words, one after the other.
 fn put_words(room: &mut [u8], at: usize, words: &[u32]) -> usize
     requires { ⌜ Fits at (wordBytes (now words)) ⌝ }
     ensures { λ r. ⌜ Stored (now (room .entry)) at (wordBytes (now (words .entry))) (now (room .exit)) r ⌝ }
@@ -136,14 +136,25 @@ fn put_setup(room: &mut [u8], at: usize, s: Settings) -> usize
     put(room, mode, 1, s.mode)
 }
 
+// The host's words.
+fn put_host(room: &mut [u8], at: usize, words: &[u32]) -> usize
+    requires { ⌜ (length (now words) ≡ 5) × (at + 26 < 2 ^ 64) ⌝ }
+    ensures { λ r. ⌜ Stored (now (room .entry)) at (hostOf (now (words .entry))) (now (room .exit)) r ⌝ }
+{
+    let head = put_head(room, at, 20, 5);
+    put_words(room, head, words)
+}
+
 // The job that a machine and its cells are saved as.
 pub(crate) fn put_job(room: &mut [u8], machine: Machine, cells: &[u32]) -> usize
     requires { ⌜ length (now cells) ≤ mostCells ⌝ }
     ensures { λ r. ⌜ Stored (now (room .entry)) 0 (savedOf machine (now (cells .entry))) (now (room .exit)) r ⌝ }
 {
     let regs = machine.regs;
+    let words = machine.host;
     let values = put_runs(room, 0, cells);
     let setup = put_values(room, values, &regs);
-    let end = put_setup(room, setup, machine.settings);
+    let host = put_setup(room, setup, machine.settings);
+    let end = put_host(room, host, &words);
     put_head(room, end, 0, 4)
 }

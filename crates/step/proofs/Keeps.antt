@@ -122,7 +122,7 @@ module _ (s : State) (l : Lawful s) where
   ranged-in : Ranged (effectIn s)
   unfolding effectIn
   ranged-in =
-      ranged s (l .words) (l .cells) (l .ready .settled) _ (decoded-in-range _ (l .cells (pcOf (s .regs))))
+      ranged s (l .words) (l .cells) (l .given) (l .ready .settled) _ (decoded-in-range _ (l .cells (pcOf (s .regs))))
 
   -- the effect of a step that is done is one that going back undoes
   pub formed-in : Clear s → Formed (effectIn s) s
@@ -139,6 +139,8 @@ module _ (s : State) (l : Lawful s) where
     registers = length-regs (effectIn s) (s .regs) ∙ l .registers;
     words = writes-words (effectIn s .reversed) (effectIn s .a) (effectIn s .b) _ (set-words (s .regs) 255 (effectIn s .pc) (l .words) (ranged-in .pc)) (ranged-in .a .1) (ranged-in .b .1);
     cells = writeIf-words (effectIn s .store .used) (s .cells) (effectIn s .store .address) (effectIn s .store .value) (l .cells) (ranged-in .store);
+    five = l .five;
+    given = l .given;
     ready = ready-after s (l .ready) c;
   }
 

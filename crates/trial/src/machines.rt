@@ -8,6 +8,12 @@ use machine::Machine;
 use machine::Settings;
 use std::num::wrapping_add_usize;
 
+// Writes the host's words of a machine.
+fn put_host(m: Machine) {
+    let host = m.host;
+    tell(b" words ", digest(&host));
+}
+
 // Writes a machine and its cells.
 pub(crate) fn put_machine(m: Machine, cells: &[u32]) {
     let regs = m.regs;
@@ -16,6 +22,7 @@ pub(crate) fn put_machine(m: Machine, cells: &[u32]) {
     tell(b" mask ", s.mask as u64);
     tell(b" mode ", s.mode as u64);
     tell(b" depth ", m.depth as u64);
+    put_host(m);
     tell(b" registers ", digest(&regs));
     tell(b" cells ", digest(cells));
 }
@@ -61,10 +68,22 @@ pub(crate) struct Given {
     pub end: usize,
 }
 
+// The five words that stand at a place of a payload.
+pub(crate) fn words_at(payload: &[u8], at: usize) -> [u32; 5] {
+    [
+        word_at(payload, at),
+        word_at(payload, wrapping_add_usize(at, 4)),
+        word_at(payload, wrapping_add_usize(at, 8)),
+        word_at(payload, wrapping_add_usize(at, 12)),
+        word_at(payload, wrapping_add_usize(at, 16)),
+    ]
+}
+
 // The machine that a payload gives.
 pub(crate) fn machine_of(payload: &[u8]) -> Given {
     let mut regs = [0u32; 256];
-    let end = set_words(&mut regs, payload, 24, 1);
+    let end = set_words(&mut regs, payload, 44, 1);
+    let host = words_at(payload, 24);
     Given {
         machine: Machine {
             regs,
@@ -74,6 +93,7 @@ pub(crate) fn machine_of(payload: &[u8]) -> Given {
                 mode: word_at(payload, 16),
             },
             depth: word_at(payload, 20),
+            host,
         },
         end,
     }

@@ -8,7 +8,7 @@ use native.Mathlib.Omega.{arith}
 use borrow.Author.Tests.{lt-ltb, le-ltb, ltb-false}
 use lib.Dec.{eqb, ltb}
 use lib.ListN.{length}
-use Rattle.machine.specs.State.{mostCells, badCells}
+use Rattle.machine.specs.State.{freshHost, mostCells, badCells}
 use Rattle.intake.specs.Intake.{mostInput}
 use Rattle.job.specs.declared.Loaded.{Loaded}
 use Rattle.job.specs.declared.Answer.the-variants as answer
@@ -22,12 +22,12 @@ use Rattle.verdict.specs.declared.Verdict.the-variants.{Refused}
 use Rattle.verdict.specs.Verdict.{foundIn, verdictOf, cellsOf}
 
 -- a load into too many cells is refused
-loads-few : (job cells : List ℕ) → loadOf job cells .said .number ≡ 0 → length cells ≤ mostCells
+loads-few : (job host cells : List ℕ) → loadOf job host cells .said .number ≡ 0 → length cells ≤ mostCells
 unfolding refusalIn
-loads-few job cells e = go (badCells (length cells)) refl e
+loads-few job host cells e = go (badCells (length cells)) refl e
   where
     go : (t : Bool) → badCells (length cells) ≡ t
-        → loadedBy (cond t (refusedAt 12 0) (refusalFrom (length job) (length cells) job 0 nothingYet)) job cells .said .number ≡ 0 → length cells ≤ mostCells
+        → loadedBy (cond t (refusedAt 12 0) (refusalFrom (length job) (length cells) job 0 nothingYet)) job host cells .said .number ≡ 0 → length cells ≤ mostCells
     go true t-is e = absurd (omega arith)
     go false t-is e = ltb-false mostCells (length cells) (neither (eqb (length cells) 0) (ltb mostCells (length cells)) t-is .1)
 
@@ -40,7 +40,7 @@ module _ (input argument cells : List ℕ) where
   unfolding cellsOf
   cells-long h = rw (lt-ltb mostInput (length input) h)
 
-  module _ (l : Loaded) (left : List ℕ) (h : length input ≤ mostInput) (e : loadWith l left ≡ loadOf input cells) where
+  module _ (l : Loaded) (left : List ℕ) (h : length input ≤ mostInput) (e : loadWith l left ≡ loadOf input freshHost cells) where
     pub cells-left : left ≡ cellsOf input cells
     unfolding cellsOf
     cells-left = rw (le-ltb mostInput (length input) h, ← e)
@@ -55,4 +55,4 @@ module _ (input argument cells : List ℕ) where
     verdict-loaded a = rw (le-ltb mostInput (length input) h, ← e, a)
 
     pub few-cells : l .answer ≡ answer.Done → length cells ≤ mostCells
-    few-cells a = loads-few input cells (rw (← e, a))
+    few-cells a = loads-few input freshHost cells (rw (← e, a))

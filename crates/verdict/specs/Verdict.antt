@@ -5,6 +5,7 @@ use Prim.Native.Nat.{ℕ}
 use lib.Dec.{ltb, eqb}
 use lib.ListN.{length, getD}
 use Rattle.intake.specs.Intake.{mostInput}
+use Rattle.machine.specs.State.{freshHost}
 use Rattle.job.specs.Job.{Load, loadOf}
 use Rattle.profile.specs.declared.Rule.{Rule}
 use Rattle.profile.specs.declared.Rule.the-variants as rule
@@ -35,11 +36,11 @@ loadedTo l job argument =
     cond (eqb (l .said .number) 0) (foundIn job argument (l .cells))
     (Refused (l .said .number) (l .said .offset))
 
--- a longer input is refused with 50 at 32768, whatever it holds
+-- a longer input is refused with 50 at 32768, whatever it holds; the host's words are zeros
 unfoldable pub verdictOf : List ℕ → List ℕ → List ℕ → Verdict
 verdictOf input argument cells =
-    cond (ltb mostInput (length input)) (Refused 50 mostInput) (loadedTo (loadOf input cells) input argument)
+    cond (ltb mostInput (length input)) (Refused 50 mostInput) (loadedTo (loadOf input freshHost cells) input argument)
 
 -- the cells that are left: as they were, or loaded
 unfoldable pub cellsOf : List ℕ → List ℕ → List ℕ
-cellsOf input cells = cond (ltb mostInput (length input)) cells (loadOf input cells .cells)
+cellsOf input cells = cond (ltb mostInput (length input)) cells (loadOf input freshHost cells .cells)

@@ -77,7 +77,7 @@ pub fn check_job(input: &[u8], argument: &[u8], cells: &mut [u32]) -> Verdict
             offset: Intake::INPUT as u64,
         };
     }
-    let loaded = job::load(input, cells);
+    let loaded = job::load(input, [0u32; 5], cells);
     let answer = loaded.answer;
     match answer {
         Answer::Refused { why, offset } => Verdict::Refused {

@@ -41,15 +41,15 @@ array-write-before c = search needs
 unpack-requires : tie.Need-unpack-requires
 unpack-requires c κs = search needs
 
-sub-t20 : tie.Need-sub-t20
-sub-t20 c = search needs
+sub-t21 : tie.Need-sub-t21
+sub-t21 c = search needs
 
 returns-2 : tie.Need-returns-2
 returns-2 c = λ cells.
-    let start = c .before .before .before .before .before .before .before in
+    let start = c .before .before .before .before .before .before .before .before in
     let a = start .args in
-    let read = c .before .before .before .entry-in .ensures in
-    let some = c .before .before .before .before .before .if1 .left in
+    let read = c .before .before .before .before .entry-in .ensures in
+    let some = c .before .before .before .before .before .before .if1 .left in
     rw (c .before .unpack .ensures, last-taken (a .m) (a .regs .now) cells (a .journal .now) (a .undone) (a .at) (a .at + 8 - a .at) _ some (start .pre .0) (start .pre .1) (start .pre .2) (omega arith) read)
 
 pub finish-spec : {M : Type 1} → statement M
@@ -65,5 +65,5 @@ finish-spec =
     entry-in-requires
     array-write-before
     unpack-requires
-    sub-t20
+    sub-t21
     returns-2)

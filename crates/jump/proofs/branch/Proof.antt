@@ -11,10 +11,10 @@ is-wild-requires : tie.Need-is-wild-requires
 is-wild-requires c κs = search needs
 
 returns : tie.Need-returns
-returns c = λ cells. λ long.
+returns c = λ host. λ cells. λ long.
     let a = c .before .before .before .before .args in
     let w = c .before .is-wild .ensures in
-    runs-wild (nOf (a .cell)) (immOf (a .cell)) (a .s) _ (a .regs .now) cells (a .part .now) (search needs) (sym w ∙ c .if1 .taken)
+    runs-wild (nOf (a .cell)) (immOf (a .cell)) (a .s) _ (a .regs .now) host cells (a .part .now) (search needs) (sym w ∙ c .if1 .taken)
 
 move-on-requires : tie.Need-move-on-requires
 move-on-requires c κs = search needs
@@ -50,24 +50,24 @@ same-length : tie.Need-same-length
 same-length c = search needs
 
 returns-2 : tie.Need-returns-2
-returns-2 c = λ cells. λ long.
+returns-2 c = λ host. λ cells. λ long.
     let a = c .before .before .before .before .before .before .before .before .before .before .before .before .before .before .before .before .args in
     let m = c .before .before .before .before .before .before .before .before .before .move-on .ensures in
     let tame = sym (c .before .before .before .before .before .before .before .before .before .before .before .before .before .is-wild .ensures) ∙ c .before .before .before .before .before .before .before .before .before .before .before .before .if1 .left in
     let zero = rw (m .1, c .before .before .before .before .before .before .n-of .ensures .0) at (c .before .before .before .before .if2 .taken) in
     rw (c .wrapping-add-u32 .ensures, c .before .se .ensures, c .before .before .imm-of .ensures, m .1)
-    (jumps (nOf (a .cell)) (immOf (a .cell)) (a .s) _ (a .regs .now) cells (a .part .now) _ (search needs) long tame (m .0) zero)
+    (jumps (nOf (a .cell)) (immOf (a .cell)) (a .s) _ (a .regs .now) host cells (a .part .now) _ (search needs) long tame (m .0) zero)
 
 same-length-2 : tie.Need-same-length-2
 same-length-2 c = search needs
 
 returns-3 : tie.Need-returns-3
-returns-3 c = λ cells. λ long.
+returns-3 c = λ host. λ cells. λ long.
     let a = c .before .before .before .before .before .before .before .before .before .before .before .before .args in
     let m = c .before .before .before .before .before .move-on .ensures in
     let tame = sym (c .before .before .before .before .before .before .before .before .before .is-wild .ensures) ∙ c .before .before .before .before .before .before .before .before .if1 .left in
     let other = rw (m .1, c .before .before .n-of .ensures .0) at (c .if2 .left) in
-    rw (m .1) (stays (nOf (a .cell)) (immOf (a .cell)) (a .s) _ (a .regs .now) cells (a .part .now) _ (search needs) long tame (m .0) other)
+    rw (m .1) (stays (nOf (a .cell)) (immOf (a .cell)) (a .s) _ (a .regs .now) host cells (a .part .now) _ (search needs) long tame (m .0) other)
 
 pub branch-spec : {M : Type 1} → statement M
 branch-spec =

@@ -20,8 +20,8 @@ store-requires c κs = search needs
 load-requires : tie.Need-load-requires
 load-requires c κs = search needs
 
-add-t17 : tie.Need-add-t17
-add-t17 c =
+add-t18 : tie.Need-add-t18
+add-t18 c =
     let loaded = c .before .before in
     omega (arith, uses-most _ _ _ _ 1 (loaded .load .ensures .0), uses-most _ _ _ _ 4 (loaded .before .before .before .before .store .ensures .0))
 
@@ -47,7 +47,7 @@ returns c = λ told.
     let stored = loaded .before .before .before .before in
     let start = stored .before .before .before .before .before .before .before .before in
     let a = start .args in
-    carried (a .n) (a .v) (a .x) (a .y) (a .s) told _ _ _ _ _ _ (a .regs .now) (a .cells .now) (a .part .now) _ _ _ (start .fits .s .fits) (start .pre .0 .1)
+    carried (a .n) (a .v) (a .x) (a .y) (a .s) told _ _ _ _ _ _ (a .host .now) (a .regs .now) (a .cells .now) (a .part .now) _ _ _ (start .fits .s .fits) (start .pre .0 .2)
     (stored .before .before .before .before .unpack .ensures) (stored .before .before .behind-pointer .ensures) (stored .store .ensures .0) (stored .store .ensures .1)
     (loaded .load .ensures .0) (loaded .load .ensures .1) (entered .enter .ensures) (c .before .resettled .ensures) (c .pack .ensures)
 
@@ -60,7 +60,7 @@ store-and-load-spec =
     behind-pointer-requires
     store-requires
     load-requires
-    add-t17
+    add-t18
     enter-requires
     resettled-requires
     pack-requires

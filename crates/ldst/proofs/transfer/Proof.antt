@@ -107,7 +107,7 @@ returns c = λ long.
     let some = below .before in
     let zero = some .before .before in
     let d = zero .before in
-    loads (moved d) _ _ _ (start d .args .part .now) _ long (start d .fits .s .fits) (zero .if1 .taken) (some .before .index-of .ensures) (some .if2 .taken)
+    loads (moved d) _ _ _ (start d .args .host .now) (start d .args .part .now) _ long (start d .fits .s .fits) (zero .if1 .taken) (some .before .index-of .ensures) (some .if2 .taken)
     (below .if3 .taken) (rw (made .load-entry .ensures) at (entered .enter .ensures))
 
 index-of-requires-2 : tie.Need-index-of-requires-2
@@ -151,7 +151,7 @@ returns-2 c = λ long.
     let zero = below .before .before in
     let some = zero .before in
     let d = some .before in
-    stores (moved d) _ _ _ (start d .args .part .now) _ long (start d .fits .s .fits) (some .if1 .left) (zero .if4 .taken) (below .before .index-of2 .ensures)
+    stores (moved d) _ _ _ (start d .args .host .now) (start d .args .part .now) _ long (start d .fits .s .fits) (some .if1 .left) (zero .if4 .taken) (below .before .index-of2 .ensures)
     (below .if5 .taken) (rw (made .store-entry .ensures) at (entered .enter2 .ensures))
 
 element-write-regs-3 : tie.Need-element-write-regs-3

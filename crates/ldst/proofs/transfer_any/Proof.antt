@@ -26,7 +26,7 @@ start d = v-read d .before .before .before .before .before
 known : (d : tie.After-is-fault2) → let a = start d .args in
     Known (nOf (a .cell)) (mOf (a .cell)) (lOf (a .cell)) (v-read d .before .before .n-of .result) (x-read d .before .m-of .result) (y-read d .before .l-of .result)
     (v-read d .operand .result) (x-read d .operand2 .result) (y-read d .operand3 .result) (d .before .is-fault .result) (d .is-fault2 .result)
-    (before (a .regs .now) (a .s) (a .cells .now) (a .part .now))
+    (before (a .regs .now) (a .s) (a .host .now) (a .cells .now) (a .part .now))
 known d = record {
   n-is = v-read d .before .before .n-of .ensures .0;
   m-is = x-read d .before .m-of .ensures .0;
@@ -65,6 +65,9 @@ is-fault-requires-2 c κs = search needs
 returns : tie.Need-returns
 returns c = let d = c .before in rw (faulted (known d) _ (c .if1 .taken), packed-unpacked _ (start d .fits .s .fits))
 
+illegal-load-requires : tie.Need-illegal-load-requires
+illegal-load-requires c κs = search needs
+
 illegal-store-requires : tie.Need-illegal-store-requires
 illegal-store-requires c κs = search needs
 
@@ -77,16 +80,16 @@ same-length c = search needs
 returns-2 : tie.Need-returns-2
 returns-2 c =
     let tested = c .before .before .before .before .before .before in
-    let passed = tested .before .before in
-    rw (barred (known (passed .before)) (tested .before .illegal-store .ensures) (passed .if1 .left) _ (tested .if2 .taken)) (c .before .before .illegal .ensures _)
+    let passed = tested .before .before .before in
+    rw (barred (known (passed .before)) (tested .before .before .illegal-load .ensures) (tested .before .illegal-store .ensures) (passed .if1 .left) _ (tested .if2 .taken)) (c .before .before .illegal .ensures _ _)
 
 store-and-load-requires : tie.Need-store-and-load-requires
 store-and-load-requires c κs =
     let tested = c .before .before .before in
-    let passed = tested .before .before in
+    let passed = tested .before .before .before in
     let d = passed .before in
-    let u = usable (known d) (tested .before .illegal-store .ensures) (passed .if1 .left) (tested .if2 .left) in
-    ((v-read d .before .before .n-of .ensures .1, u .0), (u .1, u .2))
+    let u = usable (known d) (tested .before .before .illegal-load .ensures) (tested .before .illegal-store .ensures) (passed .if1 .left) (tested .if2 .left) in
+    ((v-read d .before .before .n-of .ensures .1, u .0, u .1), (u .2, u .3))
 
 same-length-2 : tie.Need-same-length-2
 same-length-2 c = search needs
@@ -97,8 +100,8 @@ same-length-3 c = search needs
 returns-3 : tie.Need-returns-3
 returns-3 c =
     let tested = c .before .before .before .before .before .before .before .before in
-    let passed = tested .before .before in
-    rw (done (known (passed .before)) (tested .before .illegal-store .ensures) (passed .if1 .left) _ (tested .if2 .left)) (c .before .before .before .before .store-and-load .ensures _)
+    let passed = tested .before .before .before in
+    rw (done (known (passed .before)) (tested .before .before .illegal-load .ensures) (tested .before .illegal-store .ensures) (passed .if1 .left) _ (tested .if2 .left)) (c .before .before .before .before .store-and-load .ensures _)
 
 pub transfer-any-spec : {M : Type 1} → statement M
 transfer-any-spec =
@@ -113,6 +116,7 @@ transfer-any-spec =
     is-fault-requires
     is-fault-requires-2
     returns
+    illegal-load-requires
     illegal-store-requires
     illegal-requires
     same-length

@@ -17,7 +17,7 @@ same-length c = search needs
 
 returns : tie.Need-returns
 unfolding leftOf becameOf refusedBy effectOf regsAfter cellsAfter entryOf
-returns c = λ cells. λ long.
+returns c = λ host. λ cells. λ long.
     let a = c .before .before .before .before .before .before .args in
     let m = c .before .before .move-on .ensures in
     rw (m .0, m .1, packed-unpacked (a .s) (search needs))

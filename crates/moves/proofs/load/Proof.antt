@@ -41,11 +41,11 @@ same-length c = search needs
 
 returns : tie.Need-returns
 unfolding leftOf becameOf refusedBy effectOf regsAfter cellsAfter entryOf
-returns c = λ cells. λ told. λ long.
+returns c = λ host. λ cells. λ told. λ long.
     let a = c .before .before .before .before .before .before .before .before .before .args in
     let k = c .before .before .before .before .before .keep-n .ensures in
     let n = k .0 .0 in
-    let value = c .value-of .ensures (before (a .regs .now) (a .s) cells (a .part .now)) (nOf (a .cell)) (rw (k .1 .1, n) (sym (read (a .regs .now) long (nOf (a .cell))))) in
+    let value = c .value-of .ensures (before (a .regs .now) (a .s) host cells (a .part .now)) (nOf (a .cell)) (rw (k .1 .1, n) (sym (read (a .regs .now) long (nOf (a .cell))))) in
     rw (value, k .1 .0, k .1 .1, n, c .before .imm-of .ensures, packed-unpacked (a .s) (search needs))
 
 pub load-spec : {M : Type 1} → statement M

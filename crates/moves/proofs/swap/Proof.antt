@@ -60,7 +60,7 @@ same-length c = search needs
 
 returns : tie.Need-returns
 unfolding leftOf becameOf refusedBy effectOf regsAfter cellsAfter entryOf
-returns c = λ cells. λ told. λ long.
+returns c = λ host. λ cells. λ told. λ long.
     let a = c .before .before .before .before .before .before .before .before .before .before .before .args in
     let n = c .before .before .before .before .before .before .before .before .before .n-of in
     let m = c .before .before .m-of in

@@ -38,12 +38,12 @@ same-length : tie.Need-same-length
 same-length c = search needs
 
 returns : tie.Need-returns
-returns c = λ cells. λ long.
+returns c = λ host. λ cells. λ long.
     let a = c .before .before .before .before .before .before .before .before .before .before .before .before .before .args in
     let kept = c .before .before .before .before .before .before .before .before .before .keep-n .ensures in
     let m = reads _ long (kept .1 .1) (c .before .before .before .before .before .before .m-of .ensures .0) in
     let l = reads _ long (kept .1 .1) (c .before .before .before .before .before .l-of .ensures .0) in
-    operated (a .s) _ _ cells (a .op) _ _ long (search needs) kept m l (c .finish .ensures)
+    operated (a .s) _ _ host cells (a .op) _ _ long (search needs) kept m l (c .finish .ensures)
 
 pub registers-spec : {M : Type 1} → statement M
 registers-spec =

@@ -30,13 +30,13 @@ same-length : tie.Need-same-length
 same-length c = search needs
 
 returns : tie.Need-returns
-returns c = λ cells. λ long.
+returns c = λ host. λ cells. λ long.
     let a = c .before .before .before .before .before .before .before .before .before .before .before .before .args in
     let kept = c .before .before .before .before .before .before .before .before .keep-n .ensures in
     let n = reads _ long (kept .1 .1) (kept .0 .0) in
     let imm = c .before .before .imm-of .ensures in
     let se = sym (rw imm at (c .before .se .ensures)) in
-    operated (a .s) _ _ cells (a .op) _ _ long (search needs) kept se n (c .finish .ensures)
+    operated (a .s) _ _ host cells (a .op) _ _ long (search needs) kept se n (c .finish .ensures)
 
 pub turned-spec : {M : Type 1} → statement M
 turned-spec =

@@ -11,15 +11,15 @@ element-copy-out-pc c = search needs
 settled-requires : tie.Need-settled-requires
 settled-requires c κs = search needs
 
-add-t12 : tie.Need-add-t12
-add-t12 c = search needs
+add-t11 : tie.Need-add-t11
+add-t11 c = search needs
 
 stop-of-requires : tie.Need-stop-of-requires
 stop-of-requires c κs = search needs
 
 returns : tie.Need-returns
-returns c = λ cells journal e o. rw (c .before .settled .ensures, c .stop-of .ensures, e) (finishes _ _ _ _ _ _ _ _ (c .before .before .before .before .pre .1) (rw e at o))
+returns c = λ host cells journal e o. rw (c .before .settled .ensures, c .stop-of .ensures, e) (finishes _ _ _ _ _ _ _ _ _ (c .before .before .before .pre .1) (rw e at o))
 
 pub finish-spec : {M : Type 1} → statement M
 finish-spec =
-    tie.close (tie.spec element-copy-out-pc settled-requires add-t12 stop-of-requires returns)
+    tie.close (tie.spec element-copy-out-pc settled-requires add-t11 stop-of-requires returns)

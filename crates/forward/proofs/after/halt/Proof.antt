@@ -14,7 +14,7 @@ refused-requires c κs = search needs
 
 returns : tie.Need-returns
 unfolding movedBy
-returns c = λ rest cells journal. rw (le-ltb _ _ (c .before .before .if1 .taken), ← c .before .refusal .ensures) (c .refused .ensures cells journal)
+returns c = λ rest host cells journal. rw (le-ltb _ _ (c .before .before .if1 .taken), ← c .before .refusal .ensures) (c .refused .ensures _ host cells journal)
 
 element-copy-out-settled : tie.Need-element-copy-out-settled
 element-copy-out-settled c = search needs
@@ -22,21 +22,21 @@ element-copy-out-settled c = search needs
 settled-requires : tie.Need-settled-requires
 settled-requires c κs = search needs
 
-add-t15 : tie.Need-add-t15
-add-t15 c = search needs
+add-t13 : tie.Need-add-t13
+add-t13 c = search needs
 
-add-t16 : tie.Need-add-t16
-add-t16 c = search needs
+add-t14 : tie.Need-add-t14
+add-t14 c = search needs
 
 after-requires : tie.Need-after-requires
 after-requires c κs = search needs
 
-add-t19 : tie.Need-add-t19
-add-t19 c = search needs
+add-t17 : tie.Need-add-t17
+add-t17 c = search needs
 
 returns-2 : tie.Need-returns-2
 unfolding movedBy
-returns-2 c = λ rest cells journal. rw (lt-ltb _ _ (c .before .before .before .before .if1 .left), c .before .before .before .before .before .pre .1, c .before .settled .ensures, c .after .ensures)
+returns-2 c = λ rest host cells journal. rw (lt-ltb _ _ (c .before .before .before .if1 .left), c .before .before .before .before .pre .1, c .before .settled .ensures, c .after .ensures)
 
 pub halt-spec : {M : Type 1} → statement M
 halt-spec =
@@ -47,8 +47,8 @@ halt-spec =
     returns
     element-copy-out-settled
     settled-requires
-    add-t15
-    add-t16
+    add-t13
+    add-t14
     after-requires
-    add-t19
+    add-t17
     returns-2)

@@ -7,11 +7,11 @@ use Rattle.forward.proofs.after.refused.Tie as tie
 unpack-requires : tie.Need-unpack-requires
 unpack-requires c κs = search needs
 
-add-t9 : tie.Need-add-t9
-add-t9 c = search needs
+add-t6 : tie.Need-add-t6
+add-t6 c = search needs
 
 returns : tie.Need-returns
-returns c = λ cells journal. rw (c .unpack .ensures)
+returns c = λ regs host cells journal. rw (c .unpack .ensures)
 
 pub refused-spec : {M : Type 1} → statement M
-refused-spec = tie.close (tie.spec unpack-requires add-t9 returns)
+refused-spec = tie.close (tie.spec unpack-requires add-t6 returns)

@@ -1,9 +1,6 @@
 -- `job::reading::look_in` meets its contract: at each return the tests that led there pick the case.
 -- Assumes nothing.
 use borrow.Author.Needs.{needs}
-use native.Mathlib.Omega.{arith}
-use lib.ListN.{length}
-use Rattle.job.proofs.Rules.{sizes}
 use Rattle.job.proofs.reading.look_in.Statement.{statement}
 use Rattle.job.proofs.reading.look_in.Tie as tie
 
@@ -14,7 +11,7 @@ returns : tie.Need-returns
 returns c = rw (← c .before .in-order .ensures, c .if1 .taken)
 
 within-requires : tie.Need-within-requires
-within-requires c κs = c .before .before .before .pre
+within-requires c κs = search needs
 
 returns-2 : tie.Need-returns-2
 returns-2 c = rw (← c .before .before .before .in-order .ensures, c .before .before .if1 .left, ← c .before .within .ensures, c .if2 .taken)
@@ -31,11 +28,11 @@ ends-requires c κs = search needs
 returns-4 : tie.Need-returns-4
 returns-4 c = rw (← c .before .before .before .before .before .before .before .in-order .ensures, c .before .before .before .before .before .before .if1 .left, ← c .before .before .before .before .before .within .ensures, c .before .before .before .before .if2 .left, ← c .before .before .before .settled .ensures, c .before .before .if3 .left, ← c .before .ends .ensures, c .if4 .taken)
 
-add-t12 : tie.Need-add-t12
-add-t12 c = let s = sizes (c .before .before .before .before .before .before .before .before .before .args .kind) (length (c .before .before .before .before .before .before .before .before .before .args .payload .now)) (c .before .before .before .before .before .before .before .before .before .pre) in omega arith
+add-t13 : tie.Need-add-t13
+add-t13 c = search needs
 
 passed-requires : tie.Need-passed-requires
-passed-requires c κs = c .before .before .before .before .before .before .before .before .before .pre
+passed-requires c κs = search needs
 
 returns-5 : tie.Need-returns-5
 returns-5 c = rw (← c .before .before .before .before .before .before .before .before .in-order .ensures, c .before .before .before .before .before .before .before .if1 .left, ← c .before .before .before .before .before .before .within .ensures, c .before .before .before .before .before .if2 .left, ← c .before .before .before .before .settled .ensures, c .before .before .before .if3 .left, ← c .before .before .ends .ensures, c .before .if4 .left, c .passed .ensures)
@@ -52,6 +49,6 @@ look-in-spec =
     returns-3
     ends-requires
     returns-4
-    add-t12
+    add-t13
     passed-requires
     returns-5)

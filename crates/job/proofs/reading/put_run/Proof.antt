@@ -5,8 +5,7 @@ use lib.ListN.{length, drop}
 use mathlib.Core.Path.{refl}
 use Prim.Native.Nat.{_≤_}
 use borrow.Author.Needs.{needs}
-use Rattle.job.specs.declared.records.Kind.the-variants.{Run}
-use Rattle.job.proofs.Rules.{run-size, within-cells}
+use Rattle.job.proofs.Rules.{within-cells}
 use Rattle.job.proofs.Walk.{rest-length, rest-of}
 use Rattle.job.specs.Job.{countOf, wordsOf}
 use Rattle.job.proofs.Words.{length-words}
@@ -21,16 +20,16 @@ cast-base : tie.Need-cast-base
 cast-base c = search needs
 
 sub-count : tie.Need-sub-count
-sub-count c = let s = run-size Run (length (c .before .before .before .args .payload .now)) refl (c .before .before .before .pre .fits) in omega arith
+sub-count c = let s = c .before .before .before .pre .sized .run refl in omega arith
 
 mul-put-words : tie.Need-mul-put-words
 mul-put-words c = search needs
 
 sub-put-words : tie.Need-sub-put-words
-sub-put-words c = let w = within-cells _ Run (c .before .before .before .args .payload .now) refl (c .before .before .before .pre) in omega (arith, c .number .ensures)
+sub-put-words c = let w = within-cells _ (c .before .before .before .args .payload .now) (c .before .before .before .pre) in omega (arith, c .number .ensures)
 
 part-put-words-start : tie.Need-part-put-words-start
-part-put-words-start c = let w = within-cells _ Run (c .before .before .before .args .payload .now) refl (c .before .before .before .pre) in
+part-put-words-start c = let w = within-cells _ (c .before .before .before .args .payload .now) (c .before .before .before .pre) in
     let h : c .number .result ≤ length (c .before .before .before .args .cells .now) = omega (arith, c .number .ensures) in
     h
 
@@ -38,10 +37,10 @@ part-put-words-end : tie.Need-part-put-words-end
 part-put-words-end c = search needs
 
 sub-put-words-2 : tie.Need-sub-put-words-2
-sub-put-words-2 c = let s = run-size Run (length (c .before .before .before .before .args .payload .now)) refl (c .before .before .before .before .pre .fits) in omega arith
+sub-put-words-2 c = let s = c .before .before .before .before .pre .sized .run refl in omega arith
 
 part-put-words-start-2 : tie.Need-part-put-words-start-2
-part-put-words-start-2 c = let s = run-size Run (length (c .before .before .before .before .args .payload .now)) refl (c .before .before .before .before .pre .fits) in
+part-put-words-start-2 c = let s = c .before .before .before .before .pre .sized .run refl in
     let h : 2 ≤ length (c .before .before .before .before .args .payload .now) = omega arith in
     h
 
@@ -49,15 +48,15 @@ part-put-words-end-2 : tie.Need-part-put-words-end-2
 part-put-words-end-2 c = search needs
 
 put-words-requires : tie.Need-put-words-requires
-put-words-requires c κs = let s = run-size Run (length (c .before .before .before .before .before .args .payload .now)) refl (c .before .before .before .before .before .pre .fits) in
-    let w = within-cells _ Run (c .before .before .before .before .before .args .payload .now) refl (c .before .before .before .before .before .pre) in
+put-words-requires c κs = let s = c .before .before .before .before .before .pre .sized .run refl in
+    let w = within-cells _ (c .before .before .before .before .before .args .payload .now) (c .before .before .before .before .before .pre) in
     rw (rest-length 2 (c .before .before .before .before .before .args .payload .now), rest-length (c .before .before .number .result) (c .before .before .before .before .before .args .cells .now)) (omega arith, omega (arith, c .before .before .number .ensures))
 
 same-length : tie.Need-same-length
 same-length c = search needs
 
 returns : tie.Need-returns
-returns c = let w = within-cells _ Run (c .before .before .before .before .before .before .before .before .args .payload .now) refl (c .before .before .before .before .before .before .before .before .pre) in
+returns c = let w = within-cells _ (c .before .before .before .before .before .before .before .before .args .payload .now) (c .before .before .before .before .before .before .before .before .pre) in
     let n = length-words (countOf (c .before .before .before .before .before .before .before .before .args .payload .now)) (drop 2 (c .before .before .before .before .before .before .before .before .args .payload .now)) in
     rw (c .before .before .put-words .ensures, rest-of 2 (c .before .before .before .before .before .before .before .before .args .payload .now), ← c .before .before .before .before .before .number .ensures) (part-sets (c .before .before .before .before .before .before .before .before .args .cells .now) (wordsOf (countOf (c .before .before .before .before .before .before .before .before .args .payload .now)) (drop 2 (c .before .before .before .before .before .before .before .before .args .payload .now))) (c .before .before .before .before .before .number .result) (omega (arith, c .before .before .before .before .before .number .ensures)))
 

@@ -1,11 +1,8 @@
--- `job::records::run_end` meets its contract: a payload of the right length holds a base, and base and count are small.
+-- `job::records::run_end` meets its contract: a run's payload holds a base, and base and count are small.
 -- Assumes nothing.
 use native.Mathlib.Omega.{arith}
-use lib.ListN.{length}
 use mathlib.Core.Path.{refl}
 use borrow.Author.Needs.{needs}
-use Rattle.job.specs.declared.records.Kind.the-variants.{Run}
-use Rattle.job.proofs.Rules.{run-size}
 use Rattle.lent.proofs.Numbers.{below-2}
 use Rattle.job.proofs.records.run_end.Statement.{statement}
 use Rattle.job.proofs.records.run_end.Tie as tie
@@ -14,15 +11,14 @@ number-requires : tie.Need-number-requires
 number-requires c κs = search needs
 
 sub-result : tie.Need-sub-result
-sub-result c = let s = run-size Run (length (c .before .before .args .payload .now)) refl (c .before .before .pre) in omega arith
+sub-result c = omega (arith, c .before .before .pre .run refl)
 
 cast-result : tie.Need-cast-result
-cast-result c = let s = run-size Run (length (c .before .before .args .payload .now)) refl (c .before .before .pre) in omega arith
+cast-result c = search needs
 
 add-result : tie.Need-add-result
-add-result c = let s = run-size Run (length (c .before .before .args .payload .now)) refl (c .before .before .pre) in
-    let b = below-2 0 (c .before .before .args .payload .now) (λ k. c .before .shared-slice-known .given k .fits) in
-    omega (arith, c .number .ensures)
+add-result c = let b = below-2 0 (c .before .before .args .payload .now) (λ k. c .before .shared-slice-known .given k .fits) in
+    omega (arith, c .before .before .pre .short, c .number .ensures)
 
 returns : tie.Need-returns
 returns c = search needs

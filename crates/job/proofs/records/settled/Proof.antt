@@ -16,14 +16,17 @@ enum-told-3 c = search needs
 settings-in-requires : tie.Need-settings-in-requires
 settings-in-requires c κs = search needs
 
-in-range-requires : tie.Need-good-settings-requires
-in-range-requires c κs = search needs
+good-settings-requires : tie.Need-good-settings-requires
+good-settings-requires c κs = search needs
 
 enum-told-4 : tie.Need-enum-told-4
 enum-told-4 c = search needs
 
 enum-told-5 : tie.Need-enum-told-5
 enum-told-5 c = search needs
+
+enum-told-6 : tie.Need-enum-told-6
+enum-told-6 c = search needs
 
 returns : tie.Need-returns
 returns c = search needs
@@ -40,6 +43,9 @@ returns-4 c = search needs
 returns-5 : tie.Need-returns-5
 returns-5 c = search needs
 
+returns-6 : tie.Need-returns-6
+returns-6 c = search needs
+
 pub settled-spec : {M : Type 1} → statement M
 settled-spec =
     tie.close
@@ -48,11 +54,13 @@ settled-spec =
     enum-told-2
     enum-told-3
     settings-in-requires
-    in-range-requires
+    good-settings-requires
     enum-told-4
     enum-told-5
+    enum-told-6
     returns
     returns-2
     returns-3
     returns-4
-    returns-5)
+    returns-5
+    returns-6)

@@ -2,7 +2,7 @@
 -- Assumes nothing.
 use borrow.Author.Needs.{needs}
 use Rattle.job.specs.declared.records.Kind.the-variants.{Run}
-use Rattle.job.proofs.Rules.{as-kind}
+use Rattle.job.proofs.Rules.{as-sized}
 use Rattle.job.proofs.records.within.Statement.{statement}
 use Rattle.job.proofs.records.within.Tie as tie
 
@@ -10,7 +10,7 @@ enum-told : tie.Need-enum-told
 enum-told c = search needs
 
 run-end-requires : tie.Need-run-end-requires
-run-end-requires c κs = as-kind _ Run _ (c .enum-told .given .1) (c .before .before .before .pre)
+run-end-requires c κs = as-sized _ Run _ (c .enum-told .given .1) (c .before .before .before .pre)
 
 cast-result : tie.Need-cast-result
 cast-result c = search needs
@@ -27,6 +27,9 @@ enum-told-4 c = search needs
 enum-told-5 : tie.Need-enum-told-5
 enum-told-5 c = search needs
 
+enum-told-6 : tie.Need-enum-told-6
+enum-told-6 c = search needs
+
 returns : tie.Need-returns
 returns c = rw (c .before .enum-told .given .1, c .run-end .ensures)
 
@@ -42,6 +45,9 @@ returns-4 c = search needs
 returns-5 : tie.Need-returns-5
 returns-5 c = search needs
 
+returns-6 : tie.Need-returns-6
+returns-6 c = search needs
+
 pub within-spec : {M : Type 1} → statement M
 within-spec =
     tie.close
@@ -53,8 +59,10 @@ within-spec =
     enum-told-3
     enum-told-4
     enum-told-5
+    enum-told-6
     returns
     returns-2
     returns-3
     returns-4
-    returns-5)
+    returns-5
+    returns-6)
