@@ -6,3 +6,4 @@ pub mod Opcodes
 pub mod Forms
 pub mod Blind
 pub mod Rows
+pub mod Host

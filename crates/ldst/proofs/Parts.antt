@@ -2,22 +2,22 @@
 -- Assumes nothing.
 use Prim.Native.Nat.{ℕ, _+_, _≤_, _<_}
 use mathlib.Core.Path.{_≡_}
-use mathlib.Core.Bool.{Bool, true, false, _||_}
+use mathlib.Core.Bool.{Bool, true, false}
 use mathlib.Core.List.{List}
 use native.Mathlib.Nat.{add-zero}
 use native.Mathlib.Omega.{arith}
-use lib.Dec.{ltb, eqb}
+use lib.Dec.{eqb}
 use lib.ListN.{set}
-use borrow.Author.Tests.{lt-ltb, le-leb, eqb-true, eqb-false, leb-false, ltb-false}
+use borrow.Author.Tests.{lt-ltb, le-leb, eqb-true, eqb-false, leb-false}
 use Rattle.machine.specs.declared.Settings.{Settings}
 use Rattle.machine.specs.State.{State, firstSpecial, pcOf, writeIf}
-use Rattle.machine.specs.Addresses.{maskAddress, modeAddress, hostAddress, hostLast}
-use Rattle.machine.proofs.Tests.{picked, or-left, or-right}
+use Rattle.machine.specs.Addresses.{maskAddress, modeAddress}
+use Rattle.machine.proofs.Tests.{picked}
 use Rattle.packed.specs.Packed.{packedOf, unpackedOf}
 use Rattle.packed.proofs.Laws.{packed-unpacked}
 use Rattle.effect.specs.Operands.{nextOf, behind}
 use Rattle.effect.specs.Parts.{Write, Store, Effect, Onward, noWrite, made, onward, _then_, store, load}
-use Rattle.effect.specs.Effect.{illegalLoad, illegalStore}
+use Rattle.effect.specs.Effect.{illegalStore}
 use Rattle.journal.specs.Journal.{regsAfter, cellsAfter, entryOf, entered}
 use Rattle.carried.specs.Left.{left, before, doneBy}
 use Rattle.ldst.specs.declared.Kept.{Kept}
@@ -48,12 +48,6 @@ by-load pc p n v s stored = picked (λ (e : Effect). e ≡ both pc s (loadOf p n
 by-parts : (n v x y : ℕ) (s : State) → illegalStore x v ≡ false
     → transferOf n v x y s ≡ both (nextOf (s .regs)) (settingsOf x v (s .settings)) (loadOf y n (behind (s .cells) (s .settings) (s .host) y)) (storeOf x v)
 by-parts n v x y s legal = rw (by-store (nextOf (s .regs)) x v (s .settings) legal) (by-load _ y n _ _ _)
-
--- a load past the mode that is legal is of one of the host's words
-pub of-host : (p : ℕ) → illegalLoad p ≡ false → modeAddress < p → (hostAddress ≤ p) × (p ≤ hostLast)
-of-host p legal past =
-    let h : (ltb p hostAddress || ltb hostLast p) ≡ false = rw (lt-ltb modeAddress p past) at legal in
-    (ltb-false p hostAddress (or-left (ltb p hostAddress) _ h), ltb-false hostLast p (or-right (ltb p hostAddress) _ h))
 
 -- what is kept of a place uses at most its own part of the entry
 pub uses-most : (k : Kept) (used : Bool) (i : ℕ) (l : List ℕ) (uses : ℕ) → k ≡ keptOf used i l uses → k .uses ≤ uses

@@ -4,7 +4,7 @@ use native.Mathlib.Omega.{arith}
 use borrow.Author.Tests.{lt-ltb, le-ltb, eq-eqb, ne-eqb}
 use Rattle.machine.specs.Addresses.{hostAddress, hostLast}
 use Rattle.effect.specs.Operands.{behind}
-use Rattle.ldst.proofs.Parts.{of-host}
+use Rattle.effect.proofs.Host.{of-host}
 use borrow.Author.Needs.{needs}
 use Rattle.ldst.proofs.behind_pointer.Statement.{statement}
 use Rattle.ldst.proofs.behind_pointer.Tie as tie
