@@ -2,11 +2,16 @@
 use Prim.Native.Nat.{ℕ, zero, suc, _-_}
 use mathlib.Core.List.{List}
 use lib.ListN.{set}
+use Rattle.machine.specs.declared.Settings.{Settings}
 use Rattle.machine.specs.declared.Machine.{Machine}
 use Rattle.machine.specs.State.{State, stateOf, stateWith}
 use Rattle.packed.specs.Packed.{unpackedOf}
 use Rattle.journal.specs.declared.Entry.{Entry}
 use Rattle.journal.specs.Journal.{lastOf}
+
+-- a machine of these parts
+abbrev pub machineWith : List ℕ → Settings → ℕ → List ℕ → Machine
+machineWith regs s depth host = record { regs = regs; settings = s; depth = depth; host = host }
 
 -- PC and settings are an entry's, and regs are the other registers
 abbrev pub backTo : Entry → List ℕ → ℕ → List ℕ → List ℕ → List ℕ → State

@@ -2,14 +2,14 @@
 ghost use mathlib.Core.Path.{_≡_};
 ghost use mathlib.Core.Bool.{cond};
 ghost use mathlib.Core.List.{List};
-ghost use Prim.Native.Nat.{ℕ, _-_, _≤_};
+ghost use Prim.Native.Nat.{ℕ, _≤_};
 ghost use lib.Dec.{ltb};
+ghost use Rattle.machine.specs.declared.Settings.{Settings};
 ghost use Rattle.machine.specs.State.{stateOf, capacityOf};
 ghost use Rattle.machine.specs.Stops.{saidOf, plainly};
-ghost use Rattle.journal.specs.Words.{startOf};
 ghost use Rattle.call.specs.Calls.{stopAt, backFrom, backOf};
 ghost use Rattle.call.specs.Answers.{outOf};
-ghost use Rattle.backward.specs.Reached.{reached};
+ghost use Rattle.backward.specs.Reached.{machineWith, reached};
 use call::Checked;
 use call::Ran;
 use call::check;
@@ -32,54 +32,83 @@ fn stop_of(depth: u32, number: u64) -> Stop
     Stop::Done
 }
 
-// What going back leaves that took so many steps back: the last of them has its entry at `at`.
-fn finish(regs: &[u32; 256], m: Machine, journal: &[u32], at: usize, undone: u32, stop: Stop) -> Ran
-    requires { ⌜ (undone ≤ m .depth) × (m .depth ≤ capacityOf (now journal)) × (at ≡ startOf (m .depth - undone)) ⌝ }
-    ensures { λ r. ⌜ ((cells : List ℕ) → outOf r cells (now (journal .entry)) ≡ stopAt (saidOf stop) undone (reached m undone (now (regs .entry)) cells (now (journal .entry)))) ⌝ }
-{
-    if undone == 0 {
-        return Ran {
-            machine: m,
-            stop,
-            count: 0,
-        };
-    }
-    let e = entry_in(&journal[at..at + Entry::WORDS]);
-    let mut before = *regs;
-    before[255] = e.pc;
-    let host = m.host;
-    Ran {
-        machine: Machine {
-            regs: before,
-            settings: unpack(e.settings),
-            depth: m.depth - undone,
-            host,
-        },
-        stop,
-        count: undone as u64,
-    }
+// What going back comes to: how many steps it took back, and why it stopped.
+struct Undone {
+    count: u32,
+    stop: Stop,
 }
 
-// As many steps back as the number says, or up to a stop. The journal is not written.
-fn back_on(m: Machine, cells: &mut [u32], journal: &[u32], number: u64) -> Ran
-    requires { ⌜ m .depth ≤ capacityOf (now journal) ⌝ }
-    ensures { λ r. ⌜ outOf r (now (cells .exit)) (now (journal .entry)) ≡ backFrom number 0 (stateOf m (now (cells .entry)) (now (journal .entry))) ⌝ }
+// As many steps back as the number says, or up to a stop, over lent registers. The journal is not written.
+fn back_over(
+    regs: &mut [u32; 256],
+    cells: &mut [u32],
+    journal: &[u32],
+    depth: u32,
+    number: u64,
+) -> Undone
+    requires { ⌜ depth ≤ capacityOf (now journal) ⌝ }
+    ensures few { λ r. ⌜ r .count ≤ depth ⌝ }
+    ensures left { λ r. ⌜ ((s : Settings) (host : List ℕ)
+        → stopAt (saidOf (r .stop)) (r .count) (reached (machineWith (now (regs .entry)) s depth host) (r .count) (now (regs .exit)) (now (cells .exit)) (now (journal .entry)))
+        ≡ backFrom number 0 (stateOf (machineWith (now (regs .entry)) s depth host) (now (cells .entry)) (now (journal .entry)))) ⌝ }
 {
-    let mut regs = m.regs;
-    let depth = m.depth;
     let total = lesser(number, depth);
     let mut left = total;
     let mut at = Entry::WORDS * (depth as usize);
     while 0 < left {
         let from = at - Entry::WORDS;
         let entry = entry_in(&journal[from..at]);
-        if !take_back(&mut regs, cells, entry) {
-            return finish(&regs, m, journal, at, total - left, Stop::Damaged);
+        if !take_back(regs, cells, entry) {
+            return Undone {
+                count: total - left,
+                stop: Stop::Damaged,
+            };
         }
         at = from;
         left = left - 1;
     }
-    finish(&regs, m, journal, at, total, stop_of(depth, number))
+    Undone {
+        count: total,
+        stop: stop_of(depth, number),
+    }
+}
+
+// The machine after so many steps back: PC and settings are those of the last entry taken back.
+fn returned(regs: &[u32; 256], m: Machine, journal: &[u32], undone: u32) -> Machine
+    requires { ⌜ (undone ≤ m .depth) × (m .depth ≤ capacityOf (now journal)) ⌝ }
+    ensures { λ r. ⌜ ((cells : List ℕ) → stateOf r cells (now (journal .entry)) ≡ reached m undone (now (regs .entry)) cells (now (journal .entry))) ⌝ }
+{
+    if undone == 0 {
+        return m;
+    }
+    let depth = m.depth - undone;
+    let at = Entry::WORDS * (depth as usize);
+    let e = entry_in(&journal[at..at + Entry::WORDS]);
+    let mut before = *regs;
+    before[255] = e.pc;
+    let host = m.host;
+    Machine {
+        regs: before,
+        settings: unpack(e.settings),
+        depth,
+        host,
+    }
+}
+
+// Going back that can begin: the host's words stay.
+fn back_on(m: Machine, cells: &mut [u32], journal: &[u32], number: u64) -> Ran
+    requires { ⌜ m .depth ≤ capacityOf (now journal) ⌝ }
+    ensures { λ r. ⌜ outOf r (now (cells .exit)) (now (journal .entry)) ≡ backFrom number 0 (stateOf m (now (cells .entry)) (now (journal .entry))) ⌝ }
+{
+    let mut regs = m.regs;
+    let undone = back_over(&mut regs, cells, journal, m.depth, number);
+    let machine = returned(&regs, m, journal, undone.count);
+    let stop = undone.stop;
+    Ran {
+        machine,
+        stop,
+        count: undone.count as u64,
+    }
 }
 
 // Back by a number of steps: the last step taken back until the number is done or a stop is named.

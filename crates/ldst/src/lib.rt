@@ -2,7 +2,7 @@
 ghost use mathlib.Core.Path.{_≡_};
 ghost use mathlib.Core.Bool.{false};
 ghost use Prim.Native.Nat.{ℕ, _<_, min};
-ghost use lib.ListN.{length, set};
+ghost use lib.ListN.{length, getD, set};
 ghost use Rattle.cell.specs.Cell.{nOf, mOf, lOf};
 ghost use Rattle.machine.specs.State.{firstSpecial, writeIf};
 ghost use Rattle.effect.specs.Action.{Ldst};
@@ -52,6 +52,20 @@ fn illegal_store(p: u32, v: u32) -> bool
     true
 }
 
+// The host's word i, by a number that is known, so that no register is kept for where they are.
+fn host_word(host: &[u32; 5], i: u32) -> u32
+    requires { ⌜ i < 5 ⌝ }
+    ensures { λ r. ⌜ r ≡ getD (now (host .entry)) i 0 ⌝ }
+{
+    match i {
+        0 => host[0],
+        1 => host[1],
+        2 => host[2],
+        3 => host[3],
+        _ => host[4],
+    }
+}
+
 // The value behind a load pointer.
 fn behind_pointer(cells: &[u32], s: Settings, host: &[u32; 5], p: u32) -> u32
     requires { ⌜ (p < firstSpecial → p < length (now cells)) × (illegalLoad p ≡ false) ⌝ }
@@ -69,7 +83,7 @@ fn behind_pointer(cells: &[u32], s: Settings, host: &[u32; 5], p: u32) -> u32
     if p == Address::MODE {
         return s.mode;
     }
-    host[(p - Address::HOST) as usize]
+    host_word(host, p - Address::HOST)
 }
 
 // The settings after a store of v at p: the mask and the mode have addresses.

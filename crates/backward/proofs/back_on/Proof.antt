@@ -1,145 +1,32 @@
--- `backward::back_on` meets its contract: the loop's invariant is that what is left of going back leads where the whole leads.
+-- `backward::back_on` meets its contract: what going back over lent registers leaves is put into a machine.
 -- Assumes nothing.
-use Prim.Native.Nat.{_-_, _≤_, _<_, min}
-use mathlib.Core.Path.{_≡_, _∙_}
-use native.Mathlib.Omega.{arith}
-use lib.ListN.{length}
+use mathlib.Core.Path.{ap, _∙_}
 use borrow.Author.Needs.{needs}
-use Rattle.backward.proofs.Returns.{Returning, turn-round, over, within, breaks-off, again, one-more}
+use Rattle.machine.specs.State.{State}
+use Rattle.machine.specs.Stops.{saidOf}
+use Rattle.call.specs.Calls.{stopAt}
 use Rattle.backward.proofs.back_on.Statement.{statement}
 use Rattle.backward.proofs.back_on.Tie as tie
 
-abbrev Inv-loop : tie.InvT-loop
-Inv-loop m cells₀ journal number regs₀ depth total left₀ at₀ cells regs left at =
-    (left ≤ total) × Returning number m cells₀ journal (total - left) at regs cells
+back-over-requires : tie.Need-back-over-requires
+back-over-requires c κs = search needs
 
-abbrev μ-loop : tie.MeasureT-loop
-μ-loop m cells₀ journal number regs₀ depth total left₀ at₀ cells regs left at =
-    left
+returned-requires : tie.Need-returned-requires
+returned-requires c κs = search needs
 
-lesser-requires : tie.Need-lesser-requires Inv-loop μ-loop
-lesser-requires c κs = search needs
+cast-t13 : tie.Need-cast-t13
+cast-t13 c = search needs
 
-cast-at : tie.Need-cast-at Inv-loop μ-loop
-cast-at c = search needs
-
-mul-at : tie.Need-mul-at Inv-loop μ-loop
-mul-at c = search needs
-
-loop-holds : tie.Need-loop-holds Inv-loop μ-loop
-loop-holds c =
-    let z : c .lesser .result - c .lesser .result ≡ 0 = omega arith in
-    (omega arith, rw z turn-round)
-
--- there is a step to take back
-below : (c : tie.In-loop Inv-loop μ-loop) → let a = c .before .before .before .before .before .before .args in
-    c .before .before .lesser .result - c .before .loop .left < min (a .number) (a .m .depth)
-below c = omega (arith, c .before .before .lesser .ensures)
-
--- and its entry is in the journal
-ends : (c : tie.In-loop Inv-loop μ-loop) → (8 ≤ c .before .loop .at) × (c .before .loop .at ≤ length (c .before .before .before .before .before .before .args .journal .now))
-ends c = within (c .before .loop .inv .1) (below c) (c .before .before .before .before .before .before .pre)
-
-sub-from : tie.Need-sub-from Inv-loop μ-loop
-sub-from c = ends c .0
-
-mul-entry-in : tie.Need-mul-entry-in Inv-loop μ-loop
-mul-entry-in c = search needs
-
-sub-entry-in : tie.Need-sub-entry-in Inv-loop μ-loop
-sub-entry-in c = search needs
-
-part-entry-in-start : tie.Need-part-entry-in-start Inv-loop μ-loop
-part-entry-in-start c = search needs
-
-part-entry-in-end : tie.Need-part-entry-in-end Inv-loop μ-loop
-part-entry-in-end c = let h = ends c in search needs
-
-entry-in-requires : tie.Need-entry-in-requires Inv-loop μ-loop
-entry-in-requires c κs = search needs
-
-take-back-requires : tie.Need-take-back-requires Inv-loop μ-loop
-take-back-requires c κs = search needs
-
-sub-finish : tie.Need-sub-finish Inv-loop μ-loop
-sub-finish c = search needs
-
-finish-requires : tie.Need-finish-requires Inv-loop μ-loop
-finish-requires c κs =
-    let at-loop = c .before .before .before .before .before .before .before .before .before .before in
-    let start = at-loop .before .before .before .before .before in
-    (omega (arith, at-loop .loop .inv .1 .few), start .pre, at-loop .loop .inv .1 .place)
-
-same-length : tie.Need-same-length Inv-loop μ-loop
+same-length : tie.Need-same-length
 same-length c = search needs
 
-returns : tie.Need-returns Inv-loop μ-loop
+returns : tie.Need-returns
 returns c =
-    let off = c .before .before in
-    let back = off .before .before .before in
-    let read = back .before .before .before in
-    let here = read .before .before in
-    let done = back .take-back .ensures in
-    c .finish .ensures _
-    ∙ breaks-off (here .before .loop .inv .1) (below here) (here .before .before .before .before .before .before .pre) (read .entry-in .ensures) (done .0) (done .1 .0) (done .1 .1) (off .if1 .taken)
-
-sub-left : tie.Need-sub-left Inv-loop μ-loop
-sub-left c = search needs
-
-loop-less : tie.Need-loop-less Inv-loop μ-loop
-loop-less c = search needs
-
-loop-again : tie.Need-loop-again Inv-loop μ-loop
-loop-again c =
-    let back = c .before .before .before in
-    let read = back .before .before .before in
-    let here = read .before .before in
-    let done = back .take-back .ensures in
-    (omega arith, rw (one-more _ _ (here .loop-test .taken) (here .before .loop .inv .0)) (again (here .before .loop .inv .1) (below here) (here .before .before .before .before .before .before .pre) (read .entry-in .ensures) (done .0) (done .1 .0) (done .1 .1) (c .if1 .left)))
-
-stop-of-requires : tie.Need-stop-of-requires Inv-loop μ-loop
-stop-of-requires c κs = search needs
-
-finish-requires-2 : tie.Need-finish-requires-2 Inv-loop μ-loop
-finish-requires-2 c κs =
-    let at-loop = c .before .before .before in
-    let start = at-loop .before .before .before .before .before in
-    (omega (arith, at-loop .loop .inv .1 .few), start .pre, omega (arith, at-loop .loop .inv .1 .place))
-
-same-length-2 : tie.Need-same-length-2 Inv-loop μ-loop
-same-length-2 c = search needs
-
-returns-2 : tie.Need-returns-2 Inv-loop μ-loop
-returns-2 c =
-    let at-loop = c .before .before .before .before in
-    let all : at-loop .before .lesser .result - at-loop .loop .left ≡ at-loop .before .lesser .result = omega arith in
-    c .finish2 .ensures _ ∙ rw (c .before .stop-of .ensures) (over (rw all at (at-loop .loop .inv .1)) (at-loop .before .lesser .ensures))
+    let over = c .before .before .before .before .before in
+    let m = over .before .before .before .before .before .before .args .m in
+    let undone = over .back-over .result in
+    ap (λ (x : State). stopAt (saidOf (undone .stop)) (undone .count) x) (c .before .returned .ensures _) ∙ over .back-over .ensures .1 (m .settings) (m .host)
 
 pub back-on-spec : {M : Type 1} → statement M
 back-on-spec =
-    tie.close
-    (tie.spec
-    Inv-loop
-    μ-loop
-    lesser-requires
-    cast-at
-    mul-at
-    loop-holds
-    sub-from
-    mul-entry-in
-    sub-entry-in
-    part-entry-in-start
-    part-entry-in-end
-    entry-in-requires
-    take-back-requires
-    sub-finish
-    finish-requires
-    same-length
-    returns
-    sub-left
-    loop-less
-    loop-again
-    stop-of-requires
-    finish-requires-2
-    same-length-2
-    returns-2)
+    tie.close (tie.spec back-over-requires returned-requires cast-t13 same-length returns)

@@ -13,7 +13,7 @@ mul-result : tie.Need-mul-result
 mul-result c = search needs
 
 shared-slice-read-result : tie.Need-shared-slice-read-result
-shared-slice-read-result c = c .before .before .pre .0 (c .before .if1 .taken)
+shared-slice-read-result c = c .before .before .before .pre .0 (c .before .if1 .taken)
 
 returns : tie.Need-returns
 unfolding behind
@@ -32,26 +32,20 @@ unfolding behind
 returns-4 c = rw (le-ltb _ _ (c .before .before .before .if1 .left), ne-eqb _ _ (c .before .before .if2 .left), ne-eqb _ _ (c .before .if3 .left), eq-eqb _ _ (c .if4 .taken))
 
 -- the last case is of the host's words
-from-host : (c : tie.Else4) → (hostAddress ≤ c .before .before .before .before .args .p) × (c .before .before .before .before .args .p ≤ hostLast)
+from-host : (c : tie.Else4) → let p = c .before .before .before .before .before .args .p in (hostAddress ≤ p) × (p ≤ hostLast)
 from-host c =
-    of-host _ (c .before .before .before .before .pre .1)
+    of-host _ (c .before .before .before .before .before .pre .1)
     (omega (arith, c .if4 .left, c .before .if3 .left, c .before .before .if2 .left, c .before .before .before .if1 .left))
 
-sub-result : tie.Need-sub-result
-sub-result c = from-host c .0
+sub-host-word : tie.Need-sub-host-word
+sub-host-word c = from-host c .0
 
-cast-result : tie.Need-cast-result
-cast-result c = search needs
-
-mul-result-2 : tie.Need-mul-result-2
-mul-result-2 c = search needs
-
-element-copy-out-result : tie.Need-element-copy-out-result
-element-copy-out-result c = let h = from-host c in omega (arith, h .0, h .1)
+host-word-requires : tie.Need-host-word-requires
+host-word-requires c κs = let h = from-host c in omega (arith, h .0, h .1)
 
 returns-5 : tie.Need-returns-5
 unfolding behind
-returns-5 c = rw (le-ltb _ _ (c .before .before .before .before .if1 .left), ne-eqb _ _ (c .before .before .before .if2 .left), ne-eqb _ _ (c .before .before .if3 .left), ne-eqb _ _ (c .before .if4 .left))
+returns-5 c = rw (c .host-word .ensures, le-ltb _ _ (c .before .before .before .before .if1 .left), ne-eqb _ _ (c .before .before .before .if2 .left), ne-eqb _ _ (c .before .before .if3 .left), ne-eqb _ _ (c .before .if4 .left))
 
 pub behind-pointer-spec : {M : Type 1} → statement M
 behind-pointer-spec =
@@ -63,8 +57,6 @@ behind-pointer-spec =
     returns-2
     returns-3
     returns-4
-    sub-result
-    cast-result
-    mul-result-2
-    element-copy-out-result
+    sub-host-word
+    host-word-requires
     returns-5)
