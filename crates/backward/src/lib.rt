@@ -74,7 +74,7 @@ fn back_over(
 }
 
 // The machine after so many steps back: PC and settings are those of the last entry taken back.
-fn returned(regs: &[u32; 256], m: Machine, journal: &[u32], undone: u32) -> Machine
+fn machine_after(regs: &[u32; 256], m: Machine, journal: &[u32], undone: u32) -> Machine
     requires { ⌜ (undone ≤ m .depth) × (m .depth ≤ capacityOf (now journal)) ⌝ }
     ensures { λ r. ⌜ ((cells : List ℕ) → stateOf r cells (now (journal .entry)) ≡ reached m undone (now (regs .entry)) cells (now (journal .entry))) ⌝ }
 {
@@ -102,7 +102,7 @@ fn back_on(m: Machine, cells: &mut [u32], journal: &[u32], number: u64) -> Ran
 {
     let mut regs = m.regs;
     let undone = back_over(&mut regs, cells, journal, m.depth, number);
-    let machine = returned(&regs, m, journal, undone.count);
+    let machine = machine_after(&regs, m, journal, undone.count);
     let stop = undone.stop;
     Ran {
         machine,

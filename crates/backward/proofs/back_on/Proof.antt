@@ -11,8 +11,8 @@ use Rattle.backward.proofs.back_on.Tie as tie
 back-over-requires : tie.Need-back-over-requires
 back-over-requires c κs = search needs
 
-returned-requires : tie.Need-returned-requires
-returned-requires c κs = search needs
+machine-after-requires : tie.Need-machine-after-requires
+machine-after-requires c κs = search needs
 
 cast-t13 : tie.Need-cast-t13
 cast-t13 c = search needs
@@ -25,8 +25,8 @@ returns c =
     let over = c .before .before .before .before .before in
     let m = over .before .before .before .before .before .before .args .m in
     let undone = over .back-over .result in
-    ap (λ (x : State). stopAt (saidOf (undone .stop)) (undone .count) x) (c .before .returned .ensures _) ∙ over .back-over .ensures .1 (m .settings) (m .host)
+    ap (λ (x : State). stopAt (saidOf (undone .stop)) (undone .count) x) (c .before .machine-after .ensures _) ∙ over .back-over .ensures .1 (m .settings) (m .host)
 
 pub back-on-spec : {M : Type 1} → statement M
 back-on-spec =
-    tie.close (tie.spec back-over-requires returned-requires cast-t13 same-length returns)
+    tie.close (tie.spec back-over-requires machine-after-requires cast-t13 same-length returns)

@@ -1,4 +1,4 @@
--- `backward::returned` meets its contract: after no step back the machine is m, and after some the last entry taken back tells PC and settings.
+-- `backward::machine_after` meets its contract: after no step back the machine is m, and after some the last entry taken back tells PC and settings.
 -- Assumes nothing.
 use Prim.Native.Nat.{_+_, _-_, _*_, _≤_}
 use mathlib.Core.Path.{_≡_, refl}
@@ -8,8 +8,8 @@ use borrow.Author.Needs.{needs}
 use Rattle.journal.proofs.Room.{entries}
 use Rattle.backward.specs.Reached.{reached}
 use Rattle.backward.proofs.Turns.{last-taken}
-use Rattle.backward.proofs.returned.Statement.{statement}
-use Rattle.backward.proofs.returned.Tie as tie
+use Rattle.backward.proofs.machine_after.Statement.{statement}
+use Rattle.backward.proofs.machine_after.Tie as tie
 
 returns : tie.Need-returns
 unfolding reached
@@ -62,8 +62,8 @@ returns-2 c = λ cells.
     let at = 8 * (a .m .depth - a .undone) in
     rw (c .unpack .ensures, last-taken (a .m) (a .regs .now) cells (a .journal .now) (a .undone) at (at + 8 - at) _ some (start .pre .0) (start .pre .1) refl (omega arith) read)
 
-pub returned-spec : {M : Type 1} → statement M
-returned-spec =
+pub machine-after-spec : {M : Type 1} → statement M
+machine-after-spec =
     tie.close
     (tie.spec
     returns
