@@ -24,6 +24,7 @@ use Rattle.lent.specs.Little.{Bytes}
 use Rattle.lent.proofs.Numbers.{bytes-drop, bytes-take, below-4}
 use Rattle.job.specs.Loads.{Loads, Given}
 use Rattle.machine.proofs.Checks.{not-above}
+use Rattle.job.proofs.Rules.{impossible}
 use Rattle.job.proofs.Walk.{passing}
 use Rattle.job.proofs.Words.{length-words}
 
@@ -100,9 +101,6 @@ carried m P End payload c b s g = g
 carried m P Other payload c b s g = g
 
 -- the course of a record that has passed tells whether it ends the job
-pub impossible : {P : Type 0} → _≡_ {A = ℕ} 0 1 → P
-impossible z = absurd (omega arith)
-
 ends-by : (t : Bool) (past : Past) (size : ℕ) → passed t past size ≡ last → t ≡ true
 ends-by true past size h = refl
 ends-by false past size h = impossible (cc)

@@ -14,13 +14,17 @@ use Rattle.job.specs.declared.records.Row.{Row}
 use Rattle.job.specs.Job.{among, kinds, noKind, rowBy, fitsOf, baseOf, countOf}
 use Rattle.job.specs.Inner.{Sized, Sound}
 
+-- 0 is not 1: where `cc` joins them, there is nothing to show
+pub impossible : {P : Type 0} → _≡_ {A = ℕ} 0 1 → P
+impossible z = absurd (omega arith)
+
 pub and-left : (a b : Bool) → (a && b) ≡ true → a ≡ true
 and-left true b h = refl
 and-left false b h = h
 
 pub and-right : (a b : Bool) → (a && b) ≡ true → b ≡ true
 and-right true b h = h
-and-right false b h = let z : _≡_ {A = ℕ} 0 1 = cc in absurd (omega arith)
+and-right false b h = impossible (cc)
 
 -- what each row of a table has, the row of any number has
 abbrev Each : (Row → Type 0) → List (ℕ × Row) → Row → Type 0
@@ -55,9 +59,6 @@ fits-between row size h =
 record Sizes (row : Row) : Type 0 where
   sizes : (size : ℕ) → Between row size → Sized (row .kind) size
 
-clash : {P : Type 0} → _≡_ {A = ℕ} 0 1 → P
-clash z = absurd (omega arith)
-
 plain : (row : Row) → (row .kind ≡ Run → ⊥) → (row .kind ≡ Host → ⊥) → row .most < 2 ^ 31 → Sizes row
 plain row r h m = record { sizes = λ size b. record { run = λ e. absurd (r e); host = λ e. absurd (h e); short = omega (arith, b .most) } }
 
@@ -65,12 +66,12 @@ row-sizes : (number : ℕ) → Sizes (rowBy number)
 unfolding rowBy
 row-sizes number =
     by-row Sizes number kinds noKind
-    (both (record { sizes = λ size b. record { run = λ e. omega (arith, b .least); host = λ e. clash (cc); short = omega (arith, b .most) } })
-    (both (plain (rowBy 2) (λ e. clash (cc)) (λ e. clash (cc)) (omega arith))
-    (both (plain (rowBy 3) (λ e. clash (cc)) (λ e. clash (cc)) (omega arith))
-    (both (record { sizes = λ size b. record { run = λ e. clash (cc); host = λ e. omega (arith, b .least, b .most); short = omega (arith, b .most) } })
-    (both (plain (rowBy 4) (λ e. clash (cc)) (λ e. clash (cc)) (omega arith))
-    (plain noKind (λ e. clash (cc)) (λ e. clash (cc)) (omega arith)))))))
+    (both (record { sizes = λ size b. record { run = λ e. omega (arith, b .least); host = λ e. impossible (cc); short = omega (arith, b .most) } })
+    (both (plain (rowBy 2) (λ e. impossible (cc)) (λ e. impossible (cc)) (omega arith))
+    (both (plain (rowBy 3) (λ e. impossible (cc)) (λ e. impossible (cc)) (omega arith))
+    (both (record { sizes = λ size b. record { run = λ e. impossible (cc); host = λ e. omega (arith, b .least, b .most); short = omega (arith, b .most) } })
+    (both (plain (rowBy 4) (λ e. impossible (cc)) (λ e. impossible (cc)) (omega arith))
+    (plain noKind (λ e. impossible (cc)) (λ e. impossible (cc)) (omega arith)))))))
 
 pub sized-by : (row : Row) (number size : ℕ) → row ≡ rowBy number → fitsOf row size ≡ true → Sized (row .kind) size
 sized-by row number size e h =

@@ -10,7 +10,8 @@ use Rattle.job.specs.declared.records.Kind.{Kind}
 use Rattle.job.specs.declared.records.Kind.the-variants.{Run, Register, Setup, Host, End, Other}
 use Rattle.job.specs.Job.{sizeOf, kindOf, Content, contentFrom, unnamed, Load, loadOf}
 use Rattle.job.specs.Loads.{Loads, wordless, wordlessBy}
-use Rattle.job.proofs.Lawful.{impossible, loaded-from}
+use Rattle.job.proofs.Rules.{impossible}
+use Rattle.job.proofs.Lawful.{loaded-from}
 
 -- no record names the words
 unnamed-stay : (n : ℕ) (left : List ℕ) (c : Content) → wordless n left ≡ true → contentFrom n left c .host ≡ c .host

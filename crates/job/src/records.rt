@@ -18,7 +18,7 @@ pub(crate) enum Kind {
     Other,
 }
 
-// A kind's place in the order, and the least and the most bytes of its payload, which go up by fours from the least.
+// A row of the table: a kind, its place in the order, and the least and the most bytes of its payload, which go up by fours from the least.
 pub(crate) struct Row {
     pub kind: Kind,
     pub rank: u32,
@@ -33,6 +33,7 @@ pub(crate) struct Past {
     pub next: u32,
 }
 
+// A row of these parts.
 fn line(kind: Kind, rank: u32, least: u32, most: u32) -> Row
     ensures { λ r. ⌜ r ≡ line kind rank least most ⌝ }
 {
