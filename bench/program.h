@@ -8,7 +8,8 @@
 #include <string.h>
 
 enum { PC = 255, MOST_CELLS = 16384, MOST_ENTRIES = 65536, BUDGET = 65536, MOST_BYTES = 131072 };
-enum { CARRY = 1, BORROW = 2, OVERFLOW = 4, UNDERFLOW = 8, DIVIDE_BY_ZERO = 16, ILLEGAL = 128, TERMINATION = 256 };
+enum { CARRY = 1, BORROW = 2, OVERFLOW = 4, UNDERFLOW = 8, DIVIDE_BY_ZERO = 16, INVALID = 32, ILLEGAL = 128, TERMINATION = 256 };
+enum { NEAREST = 3, NOT_A_NUMBER = 0x7FC00000 };
 enum stop { DONE, ENDED, TRAP, INTERRUPT, FETCH, FAULT, FLOATS, FULL, START, DAMAGED, UNSETTLED, DEEP, CELLS, WILD };
 
 #define FIRST_SPECIAL 0xFFFF0000u
@@ -44,6 +45,23 @@ static uint32_t ex(uint32_t x)
     uint32_t up = __builtin_clz(fraction) - 21;
     return sign | (113 - up) << 23 | (fraction << up & 1023) << 13;
 }
+
+/* Floats are the compiler's own: IEEE 754's binary32, rounded to nearest, ties to even. */
+static float float_of(uint32_t bits)
+{
+    float f;
+    memcpy(&f, &bits, sizeof f);
+    return f;
+}
+
+static uint32_t bits_of(float f)
+{
+    uint32_t bits;
+    memcpy(&bits, &f, sizeof bits);
+    return bits;
+}
+
+static int infinite_or_nan(uint32_t bits) { return (bits & 0x7F800000) == 0x7F800000; }
 
 /* Once a call: 12, 10, 11; DONE if none of them. */
 static enum stop check(const struct machine *m, size_t size, uint32_t capacity)
@@ -86,7 +104,7 @@ static int load(struct machine *m, uint32_t *cells, size_t size, const uint8_t *
     size_t at = 0, end = 0;
     uint32_t rank = 0, least = 0;
     memset(m, 0, sizeof *m);
-    m->mode = 3;
+    m->mode = NEAREST;
     memset(cells, 0, size * sizeof *cells);
     for (;;) {
         if (bytes - at < 6)

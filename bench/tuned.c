@@ -80,6 +80,12 @@ static inline struct operands immediate(struct step t)
     return (struct operands){n, t.regs[n], se(imm_of(t.cell))};
 }
 
+static inline struct operands immediate_float(struct step t)
+{
+    uint32_t n = enter_one(t);
+    return (struct operands){n, t.regs[n], ex(imm_of(t.cell))};
+}
+
 /* From here on: an instruction is done, and the settings after it are the answer. */
 static inline uint32_t put(struct step t, struct operands o, uint32_t value)
 {
@@ -184,6 +190,50 @@ static inline uint32_t ldui(struct step t, struct operands o) { return put(t, o,
 static inline uint32_t ldliz(struct step t, struct operands o) { return put(t, o, o.y & 65535); }
 static inline uint32_t ldlise(struct step t, struct operands o) { return put(t, o, o.y); }
 static inline uint32_t ldlif(struct step t, struct operands o) { return put(t, o, ex(o.y & 65535)); }
+
+/* The flags of an infinite or NaN result. */
+__attribute__((noinline)) static uint32_t odd_flags(uint32_t x, uint32_t y, uint32_t bits, int divides)
+{
+    if (bits & 0x7FFFFF)
+        return INVALID;
+    if (infinite_or_nan(x) || infinite_or_nan(y))
+        return 0;
+    return divides && (y & 0x7FFFFFFF) == 0 ? DIVIDE_BY_ZERO : OVERFLOW;
+}
+
+/* The result of float arithmetic: a finite one raises nothing. */
+static inline uint32_t put_float(struct step t, uint32_t *told, struct operands o, float result, int divides)
+{
+    uint32_t bits = bits_of(result), governed = INVALID | DIVIDE_BY_ZERO | OVERFLOW;
+    if (mostly(!infinite_or_nan(bits))) {
+        t.regs[o.n] = bits;
+        return t.settings & ~governed;
+    }
+    return put_flags(t, told, o, result != result ? NOT_A_NUMBER : bits, governed, odd_flags(o.x, o.y, bits, divides));
+}
+
+static inline uint32_t fadd(struct step t, uint32_t *told, struct operands o) { return put_float(t, told, o, float_of(o.x) + float_of(o.y), 0); }
+static inline uint32_t fsub(struct step t, uint32_t *told, struct operands o) { return put_float(t, told, o, float_of(o.x) - float_of(o.y), 0); }
+static inline uint32_t fmul(struct step t, uint32_t *told, struct operands o) { return put_float(t, told, o, float_of(o.x) * float_of(o.y), 0); }
+static inline uint32_t fdiv(struct step t, uint32_t *told, struct operands o) { return put_float(t, told, o, float_of(o.x) / float_of(o.y), 1); }
+static inline uint32_t feq(struct step t, struct operands o) { return put(t, o, float_of(o.x) == float_of(o.y)); }
+
+static inline uint32_t fgt(struct step t, uint32_t *told, struct operands o)
+{
+    float x = float_of(o.x), y = float_of(o.y);
+    return put_flags(t, told, o, x > y, INVALID, __builtin_isunordered(x, y) ? INVALID : 0);
+}
+
+static inline uint32_t flt(struct step t, uint32_t *told, struct operands o) { return fgt(t, told, (struct operands){o.n, o.y, o.x}); }
+
+static inline uint32_t no_float(struct step t, uint32_t *told)
+{
+    *told = TOLD_FLOATS;
+    return t.settings;
+}
+
+/* A float in the mode that rounds to nearest, which is in the highest bits of the settings; in another it does not run. */
+#define nearest(done) (t.settings >= NEAREST << 18 ? (done) : no_float(t, told))
 
 static inline uint32_t cpswp(struct step t)
 {
@@ -349,7 +399,20 @@ static inline uint32_t execute(struct step t, uint32_t *told, uint32_t *cells, s
     case 52: return ult(t, immediate(t));
     case 53: return slt(t, immediate(t));
     case 54: return split(t, se);
-    case 80 ... 106: *told = TOLD_FLOATS; return t.settings;
+    case 80: return nearest(fadd(t, told, registers(t)));
+    case 81: return nearest(fsub(t, told, registers(t)));
+    case 82: return nearest(fmul(t, told, registers(t)));
+    case 83: return nearest(fdiv(t, told, registers(t)));
+    case 89: return nearest(fgt(t, told, registers(t)));
+    case 90: return nearest(feq(t, registers(t)));
+    case 93: return nearest(fadd(t, told, immediate_float(t)));
+    case 94: return nearest(fsub(t, told, immediate_float(t)));
+    case 95: return nearest(fmul(t, told, immediate_float(t)));
+    case 96: return nearest(fdiv(t, told, immediate_float(t)));
+    case 102: return nearest(fgt(t, told, immediate_float(t)));
+    case 103: return nearest(feq(t, immediate_float(t)));
+    case 104: return nearest(flt(t, told, immediate_float(t)));
+    case 84 ... 88: case 91: case 92: case 97 ... 101: case 105: case 106: return no_float(t, told);
     case 107: return split(t, ex);
     case 121: return bz(t, told);
     case 122: return interrupt(t, told);

@@ -25,6 +25,31 @@ static uint32_t special(const struct machine *m, uint32_t p)
     return p == FIRST_SPECIAL ? m->flags : p == MASK_ADDRESS ? m->mask : m->mode;
 }
 
+/* What an instruction on floats gives. */
+struct outcome {
+    uint32_t value, governed, raised;
+};
+
+/* An instruction on floats; those that are not arithmetic compare. */
+static struct outcome calculate(uint32_t opcode, uint32_t x, uint32_t y)
+{
+    float a = float_of(x), b = float_of(y), c = 0;
+    uint32_t governed = INVALID | DIVIDE_BY_ZERO | OVERFLOW, raised = 0;
+    switch (opcode) {
+    case 80: case 93: c = a + b; break;
+    case 81: case 94: c = a - b; break;
+    case 82: case 95: c = a * b; break;
+    case 83: case 96: c = a / b; break;
+    case 90: case 103: return (struct outcome){a == b, 0, 0};
+    default: return (struct outcome){opcode == 104 ? b > a : a > b, INVALID, a != a || b != b ? INVALID : 0};
+    }
+    if (c != c)
+        return (struct outcome){NOT_A_NUMBER, governed, INVALID};
+    if (infinite_or_nan(bits_of(c)) && !infinite_or_nan(x) && !infinite_or_nan(y))
+        raised = (opcode == 83 || opcode == 96) && b == 0 ? DIVIDE_BY_ZERO : OVERFLOW;
+    return (struct outcome){bits_of(c), governed, raised};
+}
+
 /* One step. Answers DONE if the run goes on. PC advances first, so that R255 reads as PC+1; a refused step takes that back. */
 static inline enum stop step(struct machine *m, uint32_t *cells, size_t size, uint32_t *journal, uint32_t capacity, struct ran *ran)
 {
@@ -53,6 +78,7 @@ static inline enum stop step(struct machine *m, uint32_t *cells, size_t size, ui
     uint32_t settings = m->flags + 512 * m->mask + 262144 * m->mode;
     uint32_t value = 0, governed = 0, raised = 0;
     uint64_t whole;
+    struct outcome outcome;
     enum stop after = DONE;
 
     switch (opcode) {
@@ -159,6 +185,19 @@ static inline enum stop step(struct machine *m, uint32_t *cells, size_t size, ui
         regs[r] = opcode == 54 ? se(rn) : ex(rn & 65535);
         regs[l] = opcode == 54 ? se(rn >> 16) : ex(rn >> 16);
         goto done;
+    case 93: case 94: case 95: case 96: case 102: case 103: case 104:
+        x = rn;
+        y = ex(imm);
+        goto calculation;
+    case 80: case 81: case 82: case 83: case 89: case 90:
+    calculation:
+        if (m->mode != NEAREST)
+            goto floats;
+        outcome = calculate(opcode, x, y);
+        value = outcome.value;
+        governed = outcome.governed;
+        raised = outcome.raised;
+        break;
     case 121:
         if (rn == 0) {
             int32_t target = (int32_t)next + (int16_t)imm; /* no wrap: PC is below M */

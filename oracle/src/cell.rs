@@ -55,10 +55,10 @@ pub fn encode(opcode: u8, operands: Operands) -> Result<u32, u32> {
 }
 
 /// These two put bits together without a look at the opcode: programs under trial hold odd cells too.
-pub fn with_registers(opcode: u8, n: u8, m: u8, l: u8) -> u32 {
+pub const fn with_registers(opcode: u8, n: u8, m: u8, l: u8) -> u32 {
     u32::from_be_bytes([opcode, n, m, l])
 }
 
-pub fn with_immediate(opcode: u8, n: u8, imm: u16) -> u32 {
+pub const fn with_immediate(opcode: u8, n: u8, imm: u16) -> u32 {
     (opcode as u32) << 24 | (n as u32) << 16 | imm as u32
 }

@@ -51,7 +51,7 @@ fn number(digits: &str) -> Option<u32> {
 fn sentence(reason: Reason) -> &'static str {
     match reason {
         Reason::Reserved => "the opcode is reserved",
-        Reason::Float => "opcodes 80 to 106 do not run",
+        Reason::Float => "opcodes 80 to 106 are for floats",
         Reason::Int => "INT would stop the rule",
         Reason::Back => "the branch goes back",
         Reason::Target => "R255 is a target, which it may be in LDUI R255, #65535 alone",

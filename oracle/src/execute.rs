@@ -1,5 +1,9 @@
 //! What a single instruction does.
 
+use std::cmp::Ordering;
+
+use crate::cell::opcode_of;
+use crate::float::{calculate, compare, Operation};
 use crate::half::ex;
 use crate::machine::*;
 
@@ -108,6 +112,41 @@ fn arithmetic(opcode: u8, x: u32, y: u32, flags: u32, written: &mut Written) -> 
     Some(result)
 }
 
+/// The opcodes of 80 to 106 that run.
+pub fn float_runs(opcode: u8) -> bool {
+    matches!(opcode, 80..=83 | 89 | 90 | 93..=96 | 102..=104)
+}
+
+/// The operands of a float opcode, with the opcode that does the same on registers. FLTI has the immediate first.
+fn float_operands(opcode: u8, [rn, rm, rl]: [u32; 3], imm: u16) -> (u8, u32, u32) {
+    match opcode {
+        80..=90 => (opcode, rm, rl),
+        104 => (89, ex(imm), rn),
+        _ => (opcode - 13, rn, ex(imm)),
+    }
+}
+
+/// Opcodes 80 to 83, 89 and 90 on two floats.
+fn float_result(opcode: u8, x: u32, y: u32, written: &mut Written) -> u32 {
+    let operation = match opcode {
+        80 => Operation::Add,
+        81 => Operation::Subtract,
+        82 => Operation::Multiply,
+        83 => Operation::Divide,
+        89 => {
+            let relation = compare(x, y);
+            written.write(FLOAT_INVALID, relation.is_none());
+            return (relation == Some(Ordering::Greater)) as u32;
+        }
+        _ => return (compare(x, y) == Some(Ordering::Equal)) as u32,
+    };
+    let outcome = calculate(operation, x, y);
+    written.write(FLOAT_INVALID, outcome.invalid);
+    written.write(DIVIDE_BY_ZERO, outcome.by_zero);
+    written.write(OVERFLOW, outcome.overflow);
+    outcome.result
+}
+
 impl Runner {
     /// What the register will hold when the step at PC reads it.
     pub fn operand(&self, register: u8) -> u32 {
@@ -117,6 +156,12 @@ impl Runner {
         } else {
             value
         }
+    }
+
+    /// A float whose arithmetic is out, or any float in a mode that does not round to nearest.
+    pub fn cannot_run(&self, cell: u32) -> bool {
+        let opcode = opcode_of(cell);
+        (80..=106).contains(&opcode) && !(float_runs(opcode) && self.machine.mode == NEAREST)
     }
 
     /// LDST at an address that is neither a cell nor special. Asked before the step is begun.
@@ -207,6 +252,13 @@ impl Runner {
                 if let Some(value) = result {
                     self.machine.registers[n as usize] = value;
                 }
+            }
+            _ if float_runs(opcode) => {
+                touched.a = Some(n);
+                let (operation, x, y) = float_operands(opcode, [rn, rm, rl], imm);
+                self.machine.registers[n as usize] = float_result(operation, x, y, &mut written);
+                let (before, raised) = (before.flags & written.governed, written.raised);
+                self.floats.insert(FloatStep { opcode, operands: (x, y), before, raised });
             }
             54 | 107 => {
                 touched.a = Some(m);

@@ -4,6 +4,8 @@ use crate::file::Trials;
 use crate::generate_branches;
 use crate::generate_calls;
 use crate::generate_checks;
+use crate::generate_float_stops;
+use crate::generate_floats;
 use crate::generate_forward;
 use crate::generate_instructions;
 use crate::generate_jobs;
@@ -26,6 +28,8 @@ pub fn trials(seed: u64, count: usize) -> Vec<u8> {
     generate_profile::edges(&mut random, &mut trials);
     generate_profile_stops::edges(&mut random, &mut trials);
     generate_words::edges(&mut random, &mut trials);
+    generate_floats::edges(&mut random, &mut trials);
+    generate_float_stops::edges(&mut random, &mut trials);
     while !trials.is_full() {
         match random.below(100) {
             0..=24 => generate_lines::random(&mut random, &mut trials),

@@ -2,6 +2,8 @@
 
 use crate::cell::{with_immediate, with_registers};
 use crate::file::Trials;
+use crate::float_values::{half, single};
+use crate::generate_floats::{ON_IMMEDIATES, ON_REGISTERS};
 use crate::machine::{ENTRY_WORDS, PC};
 use crate::random::Random;
 use crate::setup::{Setup, LONG};
@@ -35,7 +37,9 @@ pub fn instruction(random: &mut Random) -> u32 {
     let (m, l) = (random.register(), random.register());
     let imm = random.immediate();
     match random.below(100) {
-        0..=38 => with_registers(16 + random.below(19) as u8, n, m, l),
+        0..=30 => with_registers(16 + random.below(19) as u8, n, m, l),
+        31..=34 => with_registers(random.pick(&ON_REGISTERS), n, m, l),
+        35..=38 => with_immediate(random.pick(&ON_IMMEDIATES), n, half(random)),
         39..=58 => with_immediate(35 + random.below(19) as u8, n, imm),
         59 | 60 => ending(random),
         61..=74 => with_registers(1, n, pointer(random), pointer(random)),
@@ -108,7 +112,8 @@ fn mixture(random: &mut Random) -> Setup {
     let mut setup = Setup::new(m, words);
     for register in 0..POINTER {
         if random.chance(75) {
-            setup.registers.push((register, random.word()));
+            let value = if random.chance(60) { random.word() } else { single(random) };
+            setup.registers.push((register, value));
         }
     }
     if random.chance(40) {
@@ -125,8 +130,8 @@ fn mixture(random: &mut Random) -> Setup {
     }
     let bits = random.bits() & 511;
     setup.flags = random.pick(&[0, 0, 511, 3, 0x1FC, bits]);
-    setup.mask = random.pick(&[0, 0, 0, 1, 2, 4, 8, 16, 128, 128, 0x1FB, 511]);
-    setup.mode = random.below(4) as u32;
+    setup.mask = random.pick(&[0, 0, 0, 1, 2, 4, 8, 16, 32, 128, 128, 0x1FB, 511]);
+    setup.mode = random.pick(&[3, 3, 3, 3, 3, 0, 1, 2]);
     if random.chance(20) {
         setup.litter(random);
     }

@@ -19,11 +19,12 @@ pub fn edges(random: &mut Random, trials: &mut Trials) {
     all_entries(trials);
 }
 
-/// Each float opcode, met after as many steps as come before it.
+/// Each float opcode in a mode in which it does not run, met after as many steps as come before it.
 fn unsupported(random: &mut Random, trials: &mut Trials) {
     for opcode in 80..=106 {
         let at = random.below(3) as u32;
         let mut setup = Setup::new(3, 8 * at + random.pick(&[8, 9, 80]));
+        setup.mode = random.below(3) as u32;
         setup.place(0, &[with_immediate(35, 1, 0xFFFF); 3]);
         setup.place(at, &[with_immediate(opcode, 255, random.immediate())]);
         setup.calls = vec![(RUN, LONG), (STEP, 0)];
@@ -61,7 +62,7 @@ fn depths(random: &mut Random, trials: &mut Trials) {
         for depth in [entries.wrapping_sub(1), entries, entries + 1] {
             for cell in [
                 with_immediate(35, 1, 5),
-                with_immediate(80, 1, 5),
+                with_immediate(84, 1, 5),
                 with_registers(1, 1, 2, 3),
                 with_immediate(121, 1, 0xFFFE),
             ] {

@@ -20,11 +20,14 @@ pub const BORROW: u32 = 2;
 pub const OVERFLOW: u32 = 4;
 pub const UNDERFLOW: u32 = 8;
 pub const DIVIDE_BY_ZERO: u32 = 16;
+pub const FLOAT_INVALID: u32 = 32;
 pub const ILLEGAL: u32 = 128;
 pub const TERMINATION: u32 = 256;
 
 pub const HIGHEST_FLAGS: u32 = 511;
 pub const HIGHEST_MODE: u32 = 3;
+/// The rounding mode in which floats run.
+pub const NEAREST: u32 = 3;
 
 pub const USES_A: u32 = 1;
 pub const USES_B: u32 = 2;
@@ -45,7 +48,7 @@ pub struct Machine {
 
 impl Machine {
     pub fn fresh() -> Machine {
-        Machine { registers: [0; 256], flags: 0, mask: 0, mode: 3, depth: 0, words: NO_WORDS }
+        Machine { registers: [0; 256], flags: 0, mask: 0, mode: NEAREST, depth: 0, words: NO_WORDS }
     }
 
     pub fn settings_fit(&self) -> bool {
@@ -86,6 +89,17 @@ pub struct Runner {
     pub branches: BTreeSet<(u32, i64, bool)>,
     /// Each LDST that was done: its load and store pointers, and whether it was legal; nothing depends on them.
     pub transfers: BTreeSet<(u32, u32, bool)>,
+    /// Each float step that was done; nothing depends on them.
+    pub floats: BTreeSet<FloatStep>,
+}
+
+/// A float step's opcode and operands, the flags that it governs as they were before, and those that it raised.
+#[derive(Clone, Copy, PartialEq, Eq, PartialOrd, Ord)]
+pub struct FloatStep {
+    pub opcode: u8,
+    pub operands: (u32, u32),
+    pub before: u32,
+    pub raised: u32,
 }
 
 impl Runner {
@@ -98,6 +112,7 @@ impl Runner {
             widened: Default::default(),
             branches: BTreeSet::new(),
             transfers: BTreeSet::new(),
+            floats: BTreeSet::new(),
         }
     }
 
@@ -174,7 +189,7 @@ impl Runner {
             return Some(7);
         }
         let cell = self.cells[pc as usize];
-        if (80..=106).contains(&(cell >> 24)) {
+        if self.cannot_run(cell) {
             return Some(6);
         }
         if self.faults(cell) {

@@ -4,10 +4,14 @@ mod cell;
 mod check_rule;
 mod execute;
 mod file;
+mod float;
+mod float_values;
 mod generate;
 mod generate_branches;
 mod generate_calls;
 mod generate_checks;
+mod generate_float_stops;
+mod generate_floats;
 mod generate_forward;
 mod generate_instructions;
 mod generate_jobs;
@@ -26,18 +30,22 @@ mod setup;
 mod table;
 #[cfg(test)]
 mod tests;
+#[cfg(test)]
+mod tests_float;
 mod trial;
 
 use std::io::{self, Read, Write};
 use std::process::ExitCode;
 
-const USAGE: &str = "oracle generate SEED COUNT | answer | table | runjob | check-rule [L] | assemble";
+const USAGE: &str =
+    "oracle generate SEED COUNT | floats SEED | answer | table | runjob | check-rule [L] | assemble";
 
 fn main() -> ExitCode {
     let arguments: Vec<String> = std::env::args().skip(1).collect();
     let arguments: Vec<&str> = arguments.iter().map(String::as_str).collect();
     let done = match arguments.as_slice() {
         ["generate", seed, count] => generate(seed, count),
+        ["floats", seed] => floats(seed),
         ["answer"] => answer(),
         ["table"] => table(),
         ["runjob"] => runjob(),
@@ -69,6 +77,11 @@ fn generate(seed: &str, count: &str) -> Result<(), String> {
     let seed = seed.parse().map_err(|_| USAGE)?;
     let count = count.parse().map_err(|_| USAGE)?;
     output(&generate::trials(seed, count))
+}
+
+fn floats(seed: &str) -> Result<(), String> {
+    let seed = seed.parse().map_err(|_| USAGE)?;
+    output(&generate_floats::trials(seed))
 }
 
 /// Every trial's answer, in order, with the table of what occurred.

@@ -1,10 +1,12 @@
-//! How often each opcode, stop, finding, refusal and limit occurs in a file of trials, and how many halves become floats.
+//! How often each opcode, stop, finding, refusal and limit occurs in a file of trials, how many halves become floats, and
+//! what becomes of floats.
 
 use std::collections::{BTreeMap, BTreeSet};
+use std::ops::RangeInclusive;
 
 use crate::cell::opcode_of;
-use crate::execute::branch_target;
-use crate::machine::{Answer, Runner, Words, ENTRY_WORDS, MOST_CELLS, MOST_ENTRIES, NO_WORDS, PC};
+use crate::execute::{branch_target, float_runs};
+use crate::machine::*;
 use crate::profile::Fault;
 
 /// The calls by their kind. `runjob` makes one call of run; its refusals are counted below.
@@ -88,6 +90,23 @@ const WORDS: [&str; 22] = [
 const WIDENED: [&str; 3] = ["LDLIF", "FSPLIT low", "FSPLIT high"];
 const HALVES: usize = 65_536;
 
+const FLOATS: RangeInclusive<u8> = 80..=106;
+
+/// Whether a float that runs writes the flag: all write 32 but the tests for equality, and arithmetic the other two.
+fn governs(opcode: u8, flag: u32) -> bool {
+    let arithmetic = matches!(opcode, 80..=83 | 93..=96);
+    arithmetic || flag == FLOAT_INVALID && matches!(opcode, 89 | 102 | 104)
+}
+
+/// Only a division is by zero, and a half is too small to take a sum or a difference past the greatest float.
+fn can_raise(opcode: u8, flag: u32) -> bool {
+    match flag {
+        DIVIDE_BY_ZERO => matches!(opcode, 83 | 96),
+        OVERFLOW => matches!(opcode, 80..=83 | 95 | 96),
+        _ => governs(opcode, flag),
+    }
+}
+
 /// 1 to 7 and 13 belong to going forward, 8 and 9 to going back, 60 to 62 to profile runs, which never
 /// come to 3, 4, 6 or 13. A loaded job has nothing out of range, and its budget ends with its journal.
 fn can_stop(call: &str, stop: u32) -> bool {
@@ -108,9 +127,10 @@ pub struct Tally {
     pub printed: [u64; 256],
     pub read: [u64; 256],
     executed: [u64; 256],
-    /// Where stop 6 met the opcode.
-    unsupported: [u64; 256],
+    /// Where stop 6 met the opcode, by the rounding mode.
+    unsupported: [[u64; 4]; 256],
     widened: [BTreeSet<u16>; 3],
+    floats: BTreeSet<FloatStep>,
     stops: BTreeMap<(usize, u32), u64>,
     /// What checks found, made by themselves and by profile runs that came to them.
     found: [BTreeMap<&'static str, u64>; 2],
@@ -128,8 +148,9 @@ impl Tally {
             printed: [0; 256],
             read: [0; 256],
             executed: [0; 256],
-            unsupported: [0; 256],
+            unsupported: [[0; 4]; 256],
             widened: Default::default(),
+            floats: BTreeSet::new(),
             stops: BTreeMap::new(),
             found: Default::default(),
             profile_steps: 0,
@@ -147,7 +168,10 @@ impl Tally {
         let (name, pc) = (CALLS[call as usize], runner.machine.registers[PC]);
         match answer.stop {
             4 => self.limit(format!("{name} 4 at PC {pc}")),
-            6 => self.unsupported[opcode_of(runner.cells[pc as usize]) as usize] += 1,
+            6 => {
+                let opcode = opcode_of(runner.cells[pc as usize]);
+                self.unsupported[opcode as usize][runner.machine.mode as usize] += 1;
+            }
             13 => {
                 let target = branch_target(pc, runner.cells[pc as usize] as u16);
                 self.limit(format!("BZ from {pc} to {target} refused"));
@@ -240,6 +264,7 @@ impl Tally {
         for (all, halves) in self.widened.iter_mut().zip(&runner.widened) {
             all.extend(halves);
         }
+        self.floats.extend(&runner.floats);
         for (pc, target, taken) in &runner.branches {
             let what = if *taken { "taken" } else { "not taken" };
             self.limit(format!("BZ from {pc} to {target} {what}"));
@@ -261,6 +286,8 @@ impl Tally {
         let mut missing = Vec::new();
         self.opcodes(&mut text, &mut missing);
         self.halves(&mut text, &mut missing);
+        self.floats(&mut text, &mut missing);
+        self.float_flags(&mut text, &mut missing);
         self.calls(&mut text, &mut missing);
         self.checks(&mut text, &mut missing);
         self.refused(&mut text, &mut missing);
@@ -272,14 +299,14 @@ impl Tally {
     fn opcodes(&self, text: &mut String, missing: &mut Vec<String>) {
         *text += "opcode decoded encoded printed read executed unsupported\n";
         for opcode in 0..256 {
-            let float = (80..=106).contains(&opcode);
+            let float = FLOATS.contains(&(opcode as u8));
             let counts = [
                 ("decoded", self.decoded[opcode], true),
                 ("encoded", self.encoded[opcode], true),
                 ("printed", self.printed[opcode], true),
                 ("read", self.read[opcode], true),
-                ("executed", self.executed[opcode], !float),
-                ("unsupported", self.unsupported[opcode], float),
+                ("executed", self.executed[opcode], !float || float_runs(opcode as u8)),
+                ("unsupported", self.unsupported[opcode].iter().sum(), float),
             ];
             *text += &opcode.to_string();
             for (what, count, wanted) in counts {
@@ -298,6 +325,53 @@ impl Tally {
             *text += &format!("{name} {}\n", halves.len());
             if halves.len() < HALVES {
                 missing.push(format!("{} halves of {name}", HALVES - halves.len()));
+            }
+        }
+    }
+
+    /// The pairs of operands of each float that runs, and where stop 6 met each float. One that runs does so in mode 3.
+    fn floats(&self, text: &mut String, missing: &mut Vec<String>) {
+        *text += "float pairs unsupported in mode 0 1 2 3\n";
+        for opcode in FLOATS {
+            let steps = self.floats.iter().filter(|step| step.opcode == opcode);
+            let pairs: BTreeSet<(u32, u32)> = steps.map(|step| step.operands).collect();
+            *text += &format!("{opcode} {}", pairs.len());
+            if float_runs(opcode) && pairs.is_empty() {
+                missing.push(format!("pairs of opcode {opcode}"));
+            }
+            for (mode, count) in (0..).zip(self.unsupported[opcode as usize]) {
+                *text += &format!(" {count}");
+                if count == 0 && !(float_runs(opcode) && mode == NEAREST) {
+                    missing.push(format!("opcode {opcode} unsupported in mode {mode}"));
+                }
+            }
+            text.push('\n');
+        }
+        *text += &format!("float steps of different operands or flags {}\n", self.floats.len());
+    }
+
+    /// How often a float that governs a flag raised it over a 0 and over a 1, and cleared it.
+    fn float_flags(&self, text: &mut String, missing: &mut Vec<String>) {
+        *text += "flag float raised over 0, over 1, cleared\n";
+        for flag in [FLOAT_INVALID, DIVIDE_BY_ZERO, OVERFLOW] {
+            for opcode in FLOATS.filter(|opcode| governs(*opcode, flag)) {
+                let steps: Vec<&FloatStep> = self.floats.iter().filter(|step| step.opcode == opcode).collect();
+                let count = |before: bool, raised: bool| {
+                    let like = |step: &&&FloatStep| {
+                        (step.before & flag != 0) == before && (step.raised & flag != 0) == raised
+                    };
+                    steps.iter().filter(like).count()
+                };
+                let counts =
+                    [("raised over 0", false, true), ("raised over 1", true, true), ("cleared", true, false)];
+                *text += &format!("{flag} {opcode}");
+                for (what, before, raised) in counts {
+                    *text += &format!(" {}", count(before, raised));
+                    if count(before, raised) == 0 && (!raised || can_raise(opcode, flag)) {
+                        missing.push(format!("flag {flag} {what} by opcode {opcode}"));
+                    }
+                }
+                text.push('\n');
             }
         }
     }

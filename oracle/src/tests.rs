@@ -515,7 +515,7 @@ fn what_check_rule_prints() {
     }
     for (line, sentence) in [
         ("CELL 33554432", "the opcode is reserved"),
-        ("FADD R1, R2, R3", "opcodes 80 to 106 do not run"),
+        ("FADD R1, R2, R3", "opcodes 80 to 106 are for floats"),
         ("INT R1, #65535", "INT would stop the rule"),
         ("BZ R1, #65533", "the branch goes back"),
         ("LDST R255, R0, R0", "R255 is a target, which it may be in LDUI R255, #65535 alone"),

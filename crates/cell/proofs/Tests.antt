@@ -1,12 +1,14 @@
--- Laws of tests: what a computed count says of every number below a bound, the two halves of a conjunction, and answers that are
--- apart.
+-- Laws of tests: what a computed count says of every number below a bound, the two halves of a conjunction, a number that is
+-- none of a list, and answers that are apart.
 use mathlib.Core.Path.{_≡_, refl}
-use mathlib.Core.Bool.{Bool, true, false, cond, not, _&&_}
+use mathlib.Core.Bool.{Bool, true, false, cond, not, _&&_, _||_}
+use mathlib.Core.List.{List, [], _∷_}
+use lib.Dec.{eqb}
 use mathlib.Core.Logic.{⊎-elim}
 use Prim.Native.Nat.{ℕ, zero, suc, _+_, _<_}
 use native.Mathlib.Nat.{eq-or-lt-of-le, le-of-suc-le-suc}
 use native.Mathlib.Omega.{arith}
-use borrow.Author.Tests.{not-false}
+use borrow.Author.Tests.{not-false, ne-eqb}
 
 -- how many of the numbers below n pass the test f
 abbrev pub count : (ℕ → Bool) → ℕ → ℕ
@@ -42,3 +44,16 @@ both-left false b e = e
 pub both-right : (a b : Bool) → a && b ≡ true → b ≡ true
 both-right true b e = e
 both-right false b e = never (cc)
+
+-- a number that is none of a list
+abbrev pub NoneOf : List ℕ → ℕ → Type 0
+NoneOf [] x = Unit
+NoneOf (k ∷ ks) x = NoneOf ks x × (x ≡ k → ⊥)
+
+abbrev pub listed : List ℕ → ℕ → Bool
+listed [] x = false
+listed (k ∷ ks) x = listed ks x || eqb x k
+
+pub not-listed : (ks : List ℕ) (x : ℕ) → NoneOf ks x → listed ks x ≡ false
+not-listed [] x n = refl
+not-listed (k ∷ ks) x n = rw (not-listed ks x (n .0), ne-eqb x k (n .1))

@@ -16,7 +16,8 @@ use Rattle.machine.specs.State.{State, pcOf, mostCells}
 use Rattle.machine.specs.Addresses.{maskAddress, modeAddress}
 use Rattle.machine.proofs.Tests.{picked}
 use Rattle.effect.specs.Parts.{Effect, Onward, Interrupt, still, store, load}
-use Rattle.effect.specs.Action.{Action, Cpswp, Ldst, Put, Operate, Split, Bz, Int, Float, Illegal, Value, R, Imm, Extended, Lower, Upper}
+use Rattle.float.specs.declared.FloatOp.{FloatOp}
+use Rattle.effect.specs.Action.{Action, Cpswp, Ldst, Put, Operate, Split, Bz, Int, Calculate, Float, Illegal, Value, R, Imm, Extended, Lower, Upper}
 use Rattle.effect.specs.Operands.{reg, nextOf, valueOf}
 use Rattle.effect.specs.Effect.{illegalLoad, illegalStore, effectOf}
 use Rattle.effect.specs.Refusal.{wild}
@@ -163,6 +164,7 @@ module _ (l : ℕ) (s : State) (low : pcOf (s .regs) < 65536) where
       steadily _ (picked Steady (eqb (reg s n) 0) _ _
       (λ t. record { pc = branches imm (goes-ahead imm h); a = refl; b = refl; kept = false-true }) (λ t. steady))
   ahead (Int n imm) h g = flawed-allowed h
+  ahead (Calculate op n x y) h g = flawed-allowed h
   ahead Float h g = flawed-allowed h
   ahead Illegal h g = flawed-allowed h
 
@@ -209,6 +211,7 @@ module _ (s : State) where
   goes-on (Split x n m k) h = refl
   goes-on (Bz n imm) h = picked Silent (eqb (reg s n) 0) _ _ (λ t. refl) (λ t. refl)
   goes-on (Int n imm) h = flawed-allowed h
+  goes-on (Calculate op n x y) h = flawed-allowed h
   goes-on Float h = flawed-allowed h
   goes-on Illegal h = flawed-allowed h
 
@@ -219,6 +222,10 @@ module _ (s : State) where
   pub no-float : judgedBy (actionIn s) ≡ Allowed → actionIn s ≡ Float → ⊥
   unfolding judgedBy
   no-float h e = flawed-allowed (rw e at h)
+
+  pub no-calculation : judgedBy (actionIn s) ≡ Allowed → (op : FloatOp) (n : ℕ) (x y : Value) → actionIn s ≡ Calculate op n x y → ⊥
+  unfolding judgedBy
+  no-calculation h op n x y e = flawed-allowed (rw e at h)
 
   pub no-wild : judgedBy (actionIn s) ≡ Allowed → (n imm : ℕ) → actionIn s ≡ Bz n imm → wild (s .regs) n imm ≡ true → ⊥
   unfolding judgedBy

@@ -17,7 +17,7 @@ use Rattle.machine.specs.State.{State, pcOf, mostCells, capacityOf, firstSpecia
 use Rattle.machine.specs.Stops.{Said}
 use Rattle.machine.proofs.Tests.{picked, or-left, or-right}
 use Rattle.effect.specs.Parts.{Effect, Answer, Onward, Interrupt, still, store, load}
-use Rattle.effect.specs.Action.{Action, Cpswp, Ldst, Put, Operate, Split, Bz, Int, Float, Illegal, actionOf}
+use Rattle.effect.specs.Action.{Action, Cpswp, Ldst, Put, Operate, Split, Bz, Int, Calculate, Float, Illegal, actionOf}
 use Rattle.effect.specs.Operands.{reg}
 use Rattle.effect.specs.Effect.{illegalLoad, illegalStore, effectOf}
 use Rattle.effect.specs.Refusal.{refusedBy}
@@ -76,6 +76,7 @@ module _ (s : State) (low : pcOf (s .regs) + 32768 < 2 ^ 32) where
     split = λ e f. stays;
     bz = branches (nOf c) (immOf c) (omega arith);
     int = λ t f. stays;
+    calculate = λ op n v w f. stays;
     float = λ f. stays;
     illegal = λ f. stays;
   })
@@ -112,6 +113,7 @@ module _ (s : State) where
   can-write (Split x n m l) h = h
   can-write (Bz n imm) h = picked (Only false) (eqb (reg s n) 0) _ _ (λ t. false-true) (λ t. false-true) h
   can-write (Int n imm) h = h
+  can-write (Calculate op n x y) h = first (isPc n) h
   can-write Float h = h
   can-write Illegal h = h
 
@@ -161,7 +163,7 @@ module _ (kind : Kind) (s : State) where
       not-one _
       (picked (Named otherStops) (leb (codeOf kind (length (s .cells))) (pcOf (s .regs))) _ _ (λ t. k .0) (λ t.
       picked (Named otherStops) (leb (capacityOf (s .journal)) (s .depth)) _ _ (λ t. refl) (λ t.
-      either-named otherStops _ _ (by-action otherStops s refl (actionIn s) (λ q. refl) (λ n imm q w. refl)) (k .1))))
+      either-named otherStops _ _ (by-action otherStops s refl (actionIn s) (λ q. refl) (λ op n x y q. refl) (λ n imm q w. refl)) (k .1))))
       (rw on at e)
 
 -- the number that a step which is done stops with, if it does

@@ -27,7 +27,7 @@ use Rattle.demand.specs.Demands.{listed, runStops, GoesOn, Ends, spent, 
 use Rattle.demand.specs.Journey.{ProfileRun, Trip, setOut, call, travel}
 use Rattle.demand.specs.Forward.{profileRuns, Forward, Ample, endStops, Concludes}
 use Rattle.demand.proofs.Stops.{Named, Fine, Has, within, step-fine, any-step, stepStops, widen, run-begins, call-said}
-use Rattle.demand.proofs.Ahead.{Code, allowed-in, no-interrupt, no-float, no-wild, inside, ahead-in, code-after}
+use Rattle.demand.proofs.Ahead.{Code, allowed-in, no-interrupt, no-float, no-calculation, no-wild, inside, ahead-in, code-after}
 use Rattle.demand.proofs.Repeat.{repeated, ends-fine}
 
 -- a step that is done was not refused, and its effect is applied
@@ -126,6 +126,7 @@ has l t c r w full = record {
   off = widen endStops r w 62 refl;
   fault = widen endStops r w 5 refl;
   float = λ q e. absurd (no-float t (allowed-in l t c (omega arith)) e);
+  calculate = λ q op n x y e. absurd (no-calculation t (allowed-in l t c (omega arith)) op n x y e);
   wild = λ q n imm e w. absurd (no-wild t (allowed-in l t c (omega arith)) n imm e w);
   full = full;
   guard = picked (Named r) (storesInto l (actionIn t) t) _ _ (λ z. widen endStops r w 61 refl) (λ z. tt);

@@ -8,14 +8,15 @@ use native.Mathlib.Omega.{arith}
 use lib.Bits.{bitAnd, bitOr, or-shr, or-mod, and-shr, and-mod}
 use lib.Dec.{eqb}
 use Rattle.word.proofs.Bounds.{governed-below}
+use Rattle.float.proofs.Bounds as float
 use Rattle.machine.specs.declared.Settings.{Settings}
 use Rattle.machine.specs.State.{State}
 use Rattle.machine.specs.declared.Kind.{Kind}
 use Rattle.machine.proofs.Tests.{picked}
 use Rattle.effect.specs.Parts.{Effect, still, flagsOf, store, load}
-use Rattle.effect.specs.Action.{Action, Cpswp, Ldst, Put, Operate, Split, Bz, Int, Float, Illegal}
+use Rattle.effect.specs.Action.{Action, Cpswp, Ldst, Put, Operate, Split, Bz, Int, Calculate, Float, Illegal}
 use Rattle.machine.specs.Addresses.{maskAddress, modeAddress}
-use Rattle.effect.specs.Operands.{reg}
+use Rattle.effect.specs.Operands.{reg, valueOf}
 use Rattle.effect.specs.Effect.{illegalLoad, illegalStore, effectOf}
 use Rattle.journal.specs.Journal.{endedOf, regsAfter, settledOf, settingsAfter}
 use Rattle.step.specs.Step.{actionIn, refusalOf, effectIn, moved, stepOf}
@@ -40,7 +41,7 @@ one-or (suc (suc y)) h = absurd (omega arith)
 or-keeps : (a b : ℕ) → bit a ≡ 1 → bit (bitOr a b) ≡ 1
 or-keeps a b h = bit-or a b ∙ rw h (one-or (bit b) (omega arith))
 
-flags-keep : (flags governed raised : ℕ) → governed < 32 → bit flags ≡ 1 → bit (flagsOf flags governed raised) ≡ 1
+flags-keep : (flags governed raised : ℕ) → governed < 64 → bit flags ≡ 1 → bit (flagsOf flags governed raised) ≡ 1
 unfolding flagsOf
 flags-keep flags governed raised g h =
     let k : bit (2 ^ 32 - 1 - governed) ≡ 1 = omega arith in
@@ -66,10 +67,11 @@ module _ (s : State) (up : illegalIn s ≡ 1) where
       picked Keeps (illegalLoad (reg s l) || illegalStore (reg s m) (reg s n)) _ _ (λ t. or-keeps _ 128 up) (λ t.
       loaded (reg s l) n _ _ (stored (reg s m) (reg s n)))
   kept (Put n v) = up
-  kept (Operate op n x y) = flags-keep _ _ _ (governed-below op _ _ _ _) up
+  kept (Operate op n x y) = flags-keep _ _ _ (omega (arith, governed-below op (valueOf s x) (valueOf s y) (reg s n) (s .settings .flags))) up
   kept (Split x n m l) = up
   kept (Bz n imm) = picked Keeps (eqb (reg s n) 0) _ _ (λ t. up) (λ t. up)
   kept (Int n imm) = up
+  kept (Calculate op n x y) = flags-keep _ _ _ (float.governed-below op _ _) up
   kept Float = up
   kept Illegal = or-keeps _ 128 up
 

@@ -14,6 +14,8 @@ use Rattle.half.specs.Half.{seOf, exOf, extended}
 use Rattle.word.specs.declared.Op.{Op}
 use Rattle.word.specs.declared.Written.{Written}
 use Rattle.word.specs.Word.{writtenOf}
+use Rattle.float.specs.declared.FloatOp.{FloatOp}
+use Rattle.float.specs.Float.{calculatedOf}
 use Rattle.cell.specs.declared.Form.{Form}
 use Rattle.cell.specs.declared.Instruction.{Instruction}
 use Rattle.cell.specs.declared.Operands.{Operands}
@@ -86,6 +88,9 @@ extend-once by x r t = unique
 pub operate-once : (op : Op) (m l n flags : ℕ) (r t : Written) → r ≡ writtenOf op m l n flags → t ≡ writtenOf op m l n flags → r ≡ t
 operate-once op m l n flags r t = unique
 
+pub calculate-once : (op : FloatOp) (x y : ℕ) (r t : Written) → r ≡ calculatedOf op x y → t ≡ calculatedOf op x y → r ≡ t
+calculate-once op x y r t = unique
+
 pub form-once : (opcode : ℕ) (r t : Form) → r ≡ cell.formOf opcode → t ≡ cell.formOf opcode → r ≡ t
 form-once opcode r t = unique
 
@@ -155,6 +160,9 @@ unpack-once s r t = unique
 
 pub flags-of-once : (s r t : ℕ) → r ≡ unpackedOf s .flags → t ≡ unpackedOf s .flags → r ≡ t
 flags-of-once s r t = unique
+
+pub mode-of-once : (s r t : ℕ) → r ≡ unpackedOf s .mode → t ≡ unpackedOf s .mode → r ≡ t
+mode-of-once s r t = unique
 
 -- the entry that a part of the journal has, the part that one was written into, and what a step taken back by it leaves
 pub entry-in-once : (part : List ℕ) (r t : Entry) → r ≡ firstIn part → t ≡ firstIn part → r ≡ t

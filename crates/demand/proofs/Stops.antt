@@ -14,7 +14,8 @@ use Rattle.machine.specs.declared.Kind.{Kind}
 use Rattle.machine.specs.declared.Kind.the-variants.{Plain, Profile}
 use Rattle.machine.specs.declared.Settings.{Settings}
 use Rattle.machine.specs.State.{pcOf, State, capacityOf, badCells, badSettings}
-use Rattle.effect.specs.Action.{Action, Cpswp, Ldst, Put, Operate, Split, Bz, Int, Float, Illegal}
+use Rattle.float.specs.declared.FloatOp.{FloatOp}
+use Rattle.effect.specs.Action.{Action, Cpswp, Ldst, Put, Operate, Split, Bz, Int, Calculate, Float, Illegal, Value}
 use Rattle.effect.specs.Operands.{reg}
 use Rattle.effect.specs.Refusal.{faults, wild, refusedBy}
 use Rattle.machine.proofs.Tests.{picked}
@@ -51,23 +52,26 @@ pub record Has (l : List ℕ) (kind : Kind) (s : State) : Type 0 where
   pub off : listed l (outside kind) ≡ true
   pub fault : listed l 5 ≡ true
   pub float : pcOf (s .regs) < codeOf kind (length (s .cells)) → actionIn s ≡ Float → listed l 6 ≡ true
+  pub calculate : pcOf (s .regs) < codeOf kind (length (s .cells)) → (op : FloatOp) (n : ℕ) (x y : Value) → actionIn s ≡ Calculate op n x y → listed l 6 ≡ true
   pub wild : pcOf (s .regs) < codeOf kind (length (s .cells)) → (n imm : ℕ) → actionIn s ≡ Bz n imm → wild (s .regs) n imm ≡ true → listed l 13 ≡ true
   pub full : pcOf (s .regs) < codeOf kind (length (s .cells)) → capacityOf (s .journal) ≤ s .depth → listed l 7 ≡ true
   pub guard : Named l (guardOf kind (actionIn s) s)
 
 pub by-action : (l : List ℕ) (s : State) → listed l 5 ≡ true → (a : Action) → (a ≡ Float → listed l 6 ≡ true)
+    → ((op : FloatOp) (n : ℕ) (x y : Value) → a ≡ Calculate op n x y → listed l 6 ≡ true)
     → ((n imm : ℕ) → a ≡ Bz n imm → wild (s .regs) n imm ≡ true → listed l 13 ≡ true) → Named l (refusedBy a s)
 unfolding refusedBy
-by-action l s h (Cpswp n m k) f w = tt
-by-action l s h (Ldst n m k) f w =
+by-action l s h (Cpswp n m k) f g w = tt
+by-action l s h (Ldst n m k) f g w =
     picked (Named l) (faults (length (s .cells)) (reg s k) || faults (length (s .cells)) (reg s m)) _ _ (λ t. h) (λ t. tt)
-by-action l s h (Put n v) f w = tt
-by-action l s h (Operate op n x y) f w = tt
-by-action l s h (Split x n m k) f w = tt
-by-action l s h (Bz n imm) f w = picked (Named l) (wild (s .regs) n imm) _ _ (w n imm refl) (λ t. tt)
-by-action l s h (Int n imm) f w = tt
-by-action l s h Float f w = f refl
-by-action l s h Illegal f w = tt
+by-action l s h (Put n v) f g w = tt
+by-action l s h (Operate op n x y) f g w = tt
+by-action l s h (Split x n m k) f g w = tt
+by-action l s h (Bz n imm) f g w = picked (Named l) (wild (s .regs) n imm) _ _ (w n imm refl) (λ t. tt)
+by-action l s h (Int n imm) f g w = tt
+by-action l s h (Calculate op n x y) f g w = picked (Named l) (eqb (s .settings .mode) 3) _ _ (λ t. tt) (λ t. g op n x y refl)
+by-action l s h Float f g w = f refl
+by-action l s h Illegal f g w = tt
 
 pub either-named : (l : List ℕ) (o p : Option ℕ) → Named l o → Named l p → Named l (orElse o p)
 unfolding orElse
@@ -80,7 +84,7 @@ refusal-named l kind s h =
     picked (Named l) (endedOf (s .regs)) _ _ (λ t. h .ended) (λ t.
     picked (Named l) (leb (codeOf kind (length (s .cells))) (pcOf (s .regs))) _ _ (λ t. h .off) (λ u.
     picked (Named l) (leb (capacityOf (s .journal)) (s .depth)) _ _ (λ t. h .full (leb-false _ _ u) (leb-true _ _ t)) (λ t.
-    either-named l _ _ (by-action l s (h .fault) (actionIn s) (h .float (leb-false _ _ u)) (h .wild (leb-false _ _ u))) (h .guard))))
+    either-named l _ _ (by-action l s (h .fault) (actionIn s) (h .float (leb-false _ _ u)) (h .calculate (leb-false _ _ u)) (h .wild (leb-false _ _ u))) (h .guard))))
 
 answer-fine : (l : List ℕ) (a : Answer) (e : Effect) → listed l 2 ≡ true → ((v i : ℕ) → a ≡ Interrupt v i → listed l 3 ≡ true) → Fine l (answered a e)
 answer-fine l Onward e h f = picked (Fine l) (trapsOf e) _ _ (λ t. h) (λ t. tt)
@@ -135,6 +139,7 @@ any-step kind s = record {
   off = by-kind (stepStops kind) kind s (of-the-kind kind) .0;
   fault = refl;
   float = λ q e. refl;
+  calculate = λ q op n x y e. refl;
   wild = λ q n imm e t. refl;
   full = λ q e. refl;
   guard = by-kind (stepStops kind) kind s (of-the-kind kind) .1;

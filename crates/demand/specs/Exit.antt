@@ -7,7 +7,7 @@ use lib.ListN.{length}
 use Rattle.machine.specs.declared.Kind.{Kind}
 use Rattle.machine.specs.State.{State, pcOf, mostCells}
 use Rattle.effect.specs.Parts.{Write, Effect}
-use Rattle.effect.specs.Action.{Action, Cpswp, Ldst, Put, Operate, Split, Bz, Int, Float, Illegal}
+use Rattle.effect.specs.Action.{Action, Cpswp, Ldst, Put, Operate, Split, Bz, Int, Calculate, Float, Illegal}
 use Rattle.step.specs.Step.{actionIn, effectIn}
 use Rattle.step.specs.Steps.{steps}
 use Rattle.call.specs.Calls.{Out}
@@ -22,7 +22,7 @@ toPc w = w .used && isPc (w .number)
 abbrev pub writesPc : Effect → Bool
 writesPc e = toPc (e .a) || toPc (e .b)
 
--- The instructions that can, by their registers: CPSWP, LDST, 3 to 7, 16 to 53, SPLIT and FSPLIT; not BZ and INT, 80 to 106, reserved cells.
+-- The instructions that can, by their registers: CPSWP, LDST, 3 to 7, 16 to 53, the float opcodes that run, SPLIT and FSPLIT; not BZ and INT, the other float opcodes, reserved cells.
 abbrev pub canWritePc : Action → Bool
 canWritePc (Cpswp n m l) = isPc n || isPc l
 canWritePc (Ldst n m l) = isPc n
@@ -31,6 +31,7 @@ canWritePc (Operate op n x y) = isPc n
 canWritePc (Split x n m l) = isPc m || isPc l
 canWritePc (Bz n imm) = false
 canWritePc (Int n imm) = false
+canWritePc (Calculate op n x y) = isPc n
 canWritePc Float = false
 canWritePc Illegal = false
 

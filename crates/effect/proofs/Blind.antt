@@ -4,7 +4,7 @@ use Prim.Native.Nat.{ℕ}
 use mathlib.Core.Path.{_≡_, refl}
 use mathlib.Core.List.{List}
 use Rattle.machine.specs.State.{State, stateWith}
-use Rattle.effect.specs.Action.{Action, Cpswp, Ldst, Put, Operate, Split, Bz, Int, Float, Illegal, R, Imm, Extended, Lower, Upper, Value}
+use Rattle.effect.specs.Action.{Action, Cpswp, Ldst, Put, Operate, Split, Bz, Int, Calculate, Float, Illegal, R, Imm, Extended, Lower, Upper, Value}
 use Rattle.effect.specs.Operands.{valueOf}
 use Rattle.effect.specs.Effect.{effectOf}
 use Rattle.effect.specs.Refusal.{refusedBy}
@@ -29,6 +29,7 @@ module _ (s : State) (depth : ℕ) (journal : List ℕ) where
   effect-blind (Split x n m l) = refl
   effect-blind (Bz n imm) = refl
   effect-blind (Int n imm) = refl
+  effect-blind (Calculate op n x y) = rw (value-blind x, value-blind y)
   effect-blind Float = refl
   effect-blind Illegal = refl
 
@@ -41,5 +42,6 @@ module _ (s : State) (depth : ℕ) (journal : List ℕ) where
   refusal-blind (Split x n m l) = refl
   refusal-blind (Bz n imm) = refl
   refusal-blind (Int n imm) = refl
+  refusal-blind (Calculate op n x y) = refl
   refusal-blind Float = refl
   refusal-blind Illegal = refl

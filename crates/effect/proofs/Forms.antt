@@ -11,7 +11,7 @@ use Rattle.cell.specs.declared.Instruction.{Instruction}
 use Rattle.cell.specs.declared.Instruction.the-variants.{Registers, Immediate, Reserved}
 use Rattle.cell.specs.Cell.{legal, immediate, formOf, opcodeOf, nOf, mOf, lOf, immOf, readAs, decodeOf}
 use Rattle.cell.proofs.Tests.{count, everywhere, never}
-use Rattle.effect.specs.Action.{Action, Cpswp, Ldst, Put, Operate, Split, Bz, Int, Float, Illegal, actionOf}
+use Rattle.effect.specs.Action.{Action, Cpswp, Ldst, Put, Operate, Split, Bz, Int, Calculate, Float, Illegal, actionOf}
 
 abbrev pub is-reserved : Form → Bool
 is-reserved form.Registers = false
@@ -31,6 +31,7 @@ is-illegal (Operate op n x y) = false
 is-illegal (Split e n m l) = false
 is-illegal (Bz n imm) = false
 is-illegal (Int n imm) = false
+is-illegal (Calculate op n x y) = false
 is-illegal Float = false
 is-illegal Illegal = true
 

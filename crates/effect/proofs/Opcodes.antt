@@ -1,17 +1,15 @@
--- What a cell asks for, by its opcode: the opcodes of their own one by one, 16 to 53 by their form, 80 to 106 by one law, and all others.
+-- What a cell asks for, by its opcode: the opcodes of their own one by one, 16 to 53 by their form, 80 to 106 by theirs, and all others.
 -- Assumes nothing.
-use Prim.Native.Nat.{ℕ, _≤_}
+use Prim.Native.Nat.{ℕ, _≤_, _<_}
 use mathlib.Core.Path.{_≡_, refl}
-use mathlib.Core.Bool.{Bool, true, false, cond, not, _||_}
+use mathlib.Core.Bool.{false}
 use native.Mathlib.Omega.{arith}
-use borrow.Author.Tests.{le-leb, ne-eqb}
+use borrow.Author.Tests.{le-leb, lt-leb, ne-eqb}
 use Rattle.half.specs.declared.Extension.the-variants.{Se, Ex}
-use Rattle.cell.specs.declared.Form.{Form}
 use Rattle.cell.specs.declared.Form.the-variants as form
 use Rattle.cell.specs.declared.Instruction.the-variants.{Registers, Immediate}
-use Rattle.cell.specs.Cell.{within, legal, immediate, formOf, opcodeOf, nOf, mOf, lOf, immOf, readAs, decodeOf}
-use Rattle.cell.proofs.Tests.{count, everywhere, never}
-use Rattle.effect.specs.Action.{Imm, Extended, Lower, Upper, Cpswp, Ldst, Put, Split, Bz, Int, Float, Illegal, actionOf}
+use Rattle.cell.specs.Cell.{legal, immediate, formOf, opcodeOf, nOf, mOf, lOf, immOf, decodeOf}
+use Rattle.effect.specs.Action.{R, Imm, Extended, Lower, Upper, Cpswp, Ldst, Put, Split, Bz, Int, Illegal, calculation, actionOf}
 
 -- a cell whose opcode is k, in k's form
 pub registers-at : (c k : ℕ) → opcodeOf c ≡ k → formOf k ≡ form.Registers → decodeOf c ≡ Registers k (nOf c) (mOf c) (lOf c)
@@ -67,28 +65,76 @@ module _ (c : ℕ) where
   unfolding formOf legal immediate actionOf
   int e = rw (immediate-at c 122 e refl)
 
--- 80 to 106: every one of them is legal, and has no row of its own
-all-legal : count (λ (x : ℕ). not (not (within 80 106 x) || legal x)) 256 ≡ 0
-unfolding legal
-all-legal = refl
+-- 80 to 106 have no row of their own: 80 to 92 are on two registers, 93 to 106 on a register and ex(imm)
+module _ (x : ℕ) (low : 80 ≤ x) where
+  two-registers : x < 93 → formOf x ≡ form.Registers
+  unfolding formOf legal immediate
+  two-registers high =
+      rw (
+        le-leb 0 x (omega arith),
+        lt-leb x 1 (omega arith),
+        le-leb 3 x (omega arith),
+        lt-leb x 7 (omega arith),
+        le-leb 16 x (omega arith),
+        le-leb 35 x (omega arith),
+        lt-leb x 53 (omega arith),
+        lt-leb x 54 (omega arith),
+        le-leb 80 x low,
+        le-leb x 107 (omega arith),
+        lt-leb 93 x high,
+        lt-leb 121 x (omega arith),
+      )
 
-not-reserved : {P : Type 0} (t : Bool) → cond t form.Immediate form.Registers ≡ form.Reserved → P
-not-reserved true h = never (cc)
-not-reserved false h = never (cc)
+  an-immediate : 93 ≤ x → x ≤ 106 → formOf x ≡ form.Immediate
+  unfolding formOf legal immediate
+  an-immediate above high =
+      rw (
+        le-leb 0 x (omega arith),
+        lt-leb x 1 (omega arith),
+        le-leb 3 x (omega arith),
+        lt-leb x 7 (omega arith),
+        le-leb 16 x (omega arith),
+        le-leb 35 x (omega arith),
+        lt-leb x 53 (omega arith),
+        lt-leb x 54 (omega arith),
+        le-leb 80 x low,
+        le-leb x 107 (omega arith),
+        le-leb 93 x above,
+        le-leb x 106 high,
+      )
 
-module _ (c : ℕ) (low : 80 ≤ opcodeOf c) (high : opcodeOf c ≤ 106) where
-  is-legal : legal (opcodeOf c) ≡ true
-  is-legal = rw (le-leb 80 (opcodeOf c) low, le-leb (opcodeOf c) 106 high) at (everywhere (λ (x : ℕ). not (within 80 106 x) || legal x) 256 all-legal (opcodeOf c) (omega arith))
+module _ (c : ℕ) (low : 80 ≤ opcodeOf c) where
+  abbrev x : ℕ
+  x = opcodeOf c
 
-  cases : (f : Form) → formOf (opcodeOf c) ≡ f → actionOf (readAs f c) ≡ Float
-  unfolding actionOf formOf
-  cases form.Registers e = rw (ne-eqb (opcodeOf c) 0 (λ z. omega arith), ne-eqb (opcodeOf c) 1 (λ z. omega arith), ne-eqb (opcodeOf c) 54 (λ z. omega arith), ne-eqb (opcodeOf c) 107 (λ z. omega arith), le-leb 80 (opcodeOf c) low, le-leb (opcodeOf c) 106 high)
-  cases form.Immediate e = rw (ne-eqb (opcodeOf c) 3 (λ z. omega arith), ne-eqb (opcodeOf c) 4 (λ z. omega arith), ne-eqb (opcodeOf c) 5 (λ z. omega arith), ne-eqb (opcodeOf c) 6 (λ z. omega arith), ne-eqb (opcodeOf c) 7 (λ z. omega arith), ne-eqb (opcodeOf c) 121 (λ z. omega arith), ne-eqb (opcodeOf c) 122 (λ z. omega arith), le-leb 80 (opcodeOf c) low, le-leb (opcodeOf c) 106 high)
-  cases form.Reserved e = not-reserved (immediate (opcodeOf c)) (rw is-legal at e)
+  pub float-registers : opcodeOf c < 93 → actionOf (decodeOf c) ≡ calculation (opcodeOf c) (nOf c) (R (mOf c)) (R (lOf c))
+  unfolding actionOf
+  float-registers high =
+      rw (
+        registers-at c x refl (two-registers x low high),
+        ne-eqb x 0 (λ z. omega arith),
+        ne-eqb x 1 (λ z. omega arith),
+        ne-eqb x 54 (λ z. omega arith),
+        ne-eqb x 107 (λ z. omega arith),
+        le-leb 80 x low,
+        le-leb x 106 (omega arith),
+      )
 
-  pub float : actionOf (decodeOf c) ≡ Float
-  unfolding decodeOf
-  float = cases (formOf (opcodeOf c)) refl
+  pub float-immediate : 93 ≤ opcodeOf c → opcodeOf c ≤ 106 → actionOf (decodeOf c) ≡ calculation (opcodeOf c) (nOf c) (R (nOf c)) (Extended Ex (immOf c))
+  unfolding actionOf
+  float-immediate above high =
+      rw (
+        immediate-at c x refl (an-immediate x low above high),
+        ne-eqb x 3 (λ z. omega arith),
+        ne-eqb x 4 (λ z. omega arith),
+        ne-eqb x 5 (λ z. omega arith),
+        ne-eqb x 6 (λ z. omega arith),
+        ne-eqb x 7 (λ z. omega arith),
+        ne-eqb x 121 (λ z. omega arith),
+        ne-eqb x 122 (λ z. omega arith),
+        le-leb 80 x low,
+        le-leb x 106 high,
+      )
 
 -- an opcode that is not legal
 pub reserved : (c : ℕ) → legal (opcodeOf c) ≡ false → actionOf (decodeOf c) ≡ Illegal

@@ -8,6 +8,7 @@ use lib.ListN.{getD}
 use Rattle.word.specs.Operation.{Asked, Given, Turned, Other}
 use Rattle.word.specs.Word.{askedOf}
 use Rattle.word.proofs.Bounds.{value-below}
+use Rattle.float.proofs.Bounds as float
 use Rattle.half.proofs.Bounds.{extended-below}
 use Rattle.cell.specs.declared.Instruction.{Instruction}
 use Rattle.cell.specs.declared.Instruction.the-variants.{Registers, Immediate, Reserved}
@@ -16,11 +17,13 @@ use Rattle.machine.specs.State.{State, firstSpecial, InRange}
 use Rattle.machine.proofs.Tests.{picked}
 use Rattle.effect.specs.Parts.{Write, Effect, noWrite, still, store, load}
 use Rattle.half.specs.declared.Extension.{Extension}
+use Rattle.float.specs.declared.FloatOp.{FloatOp}
 use Rattle.half.specs.declared.Extension.the-variants.{Se, Ex}
-use Rattle.effect.specs.Action.{Value, R, Imm, Extended, Lower, Upper, Action, Cpswp, Ldst, Put, Split, Bz, Int, Float, Illegal, operation, floats, actionOf}
+use Rattle.effect.specs.Action.{Value, R, Imm, Extended, Lower, Upper, Action, Cpswp, Ldst, Put, Split, Bz, Int, Calculate, Float, Illegal, operation, floats, calculation, actionOf}
 use Rattle.machine.specs.Addresses.{flagsAddress, maskAddress, modeAddress, hostAddress}
 use Rattle.effect.specs.Operands.{nextOf, operandOf, reg, valueOf, behind}
 use Rattle.effect.specs.Effect.{illegalLoad, illegalStore, effectOf}
+use Rattle.effect.proofs.Rows.{calculated}
 
 abbrev pub Word : ℕ → Type 0
 Word x = x < 2 ^ 32
@@ -99,9 +102,16 @@ module _ (s : State) (words : (i : ℕ) → Word (getD (s .regs) i 0)) (cell-wor
   unfolding effectOf
   int n imm = record { pc = stays .pc; a = unused; b = unused; store = omega arith }
 
-  float : Fine Float
+  out : Fine Float
   unfolding effectOf
-  float = stays
+  out = stays
+
+  calculate : (op : FloatOp) (n : ℕ) (x y : Value) → n < 256 → Word (valueOf s x) → Word (valueOf s y) → Fine (Calculate op n x y)
+  unfolding effectOf
+  calculate op n x y n-fits p q = record { pc = stays .pc; a = (n-fits, float.value-below op _ _); b = unused; store = omega arith }
+
+  floated : (opcode n : ℕ) (x y : Value) → n < 256 → Word (valueOf s x) → Word (valueOf s y) → Fine (calculation opcode n x y)
+  floated opcode n x y n-fits p q = calculated Fine opcode n x y (λ op. calculate op n x y n-fits p q) (λ op. calculate op n y x n-fits q p) out
 
   operated : (a : Asked) (n : ℕ) (x y : Value) → n < 256 → Word (valueOf s x) → Word (valueOf s y) → Fine (operation a n x y)
   unfolding effectOf
@@ -120,7 +130,7 @@ module _ (s : State) (words : (i : ℕ) → Word (getD (s .regs) i 0)) (cell-wor
       picked Fine (eqb x 1) _ _ (λ t. ldst n m l (f .2)) (λ t.
       picked Fine (eqb x 54) _ _ (λ t. split Se n m l (f .3) (f .4)) (λ t.
       picked Fine (eqb x 107) _ _ (λ t. split Ex n m l (f .3) (f .4)) (λ t.
-      picked Fine (floats x) _ _ (λ t. float) (λ t.
+      picked Fine (floats x) _ _ (λ t. floated x n (R m) (R l) (f .2) (reg-below m) (reg-below l)) (λ t.
       operated (askedOf x) n (R m) (R l) (f .2) (reg-below m) (reg-below l))))))
   ranged (Immediate x n imm) f =
       let h = reg-below n in
@@ -131,6 +141,6 @@ module _ (s : State) (words : (i : ℕ) → Word (getD (s .regs) i 0)) (cell-wor
       picked Fine (eqb x 7) _ _ (λ t. put n (Extended Ex imm) (f .2) (extended-below Ex imm (f .3))) (λ t.
       picked Fine (eqb x 121) _ _ (λ t. bz n imm) (λ t.
       picked Fine (eqb x 122) _ _ (λ t. int n imm) (λ t.
-      picked Fine (floats x) _ _ (λ t. float) (λ t.
+      picked Fine (floats x) _ _ (λ t. floated x n (R n) (Extended Ex imm) (f .2) h (extended-below Ex imm (f .3))) (λ t.
       operated (askedOf x) n (R n) (Extended Se imm) (f .2) h (extended-below Se imm (f .3))))))))))
   ranged (Reserved c) f = reserved

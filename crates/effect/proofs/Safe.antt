@@ -9,13 +9,15 @@ use lib.Bits.{bitAnd, and-le-l}
 use lib.Dec.{eqb}
 use lib.ListN.{length}
 use borrow.Author.Tests.{leb-false, eqb-true, eqb-false}
+use Rattle.word.specs.declared.Written.{Written}
 use Rattle.word.proofs.Bounds.{raised-below}
+use Rattle.float.proofs.Bounds as float
 use Rattle.machine.specs.declared.Settings.{Settings}
 use Rattle.machine.specs.State.{State, flagsBound, firstSpecial, InRange}
 use Rattle.machine.proofs.Flags.{flags-or}
 use Rattle.machine.proofs.Tests.{picked, or-right}
-use Rattle.effect.specs.Parts.{Effect, still, flagsOf, illegal, store, load}
-use Rattle.effect.specs.Action.{Action, Cpswp, Ldst, Put, Operate, Split, Bz, Int, Float, Illegal}
+use Rattle.effect.specs.Parts.{Effect, still, flagsOf, result, illegal, store, load}
+use Rattle.effect.specs.Action.{Action, Cpswp, Ldst, Put, Operate, Split, Bz, Int, Calculate, Float, Illegal}
 use Rattle.machine.specs.Addresses.{maskAddress, modeAddress}
 use Rattle.effect.specs.Operands.{reg, valueOf}
 use Rattle.effect.specs.Effect.{illegalLoad, illegalStore, effectOf}
@@ -67,6 +69,13 @@ module _ (s : State) where
       let z : p ≡ 0 → ⊥ = eqb-false p 0 t0 in
       record { store = λ u. (omega arith, no-fault _ p fine (leb-false firstSpecial p (rw (t1, t2) at legal))); settings = λ r. r })))
 
+  -- what an operation wrote, its flags below the bound
+  resulted : (n : ℕ) (w : Written) → w .raised < flagsBound → Kept (result n w (still s))
+  resulted n w small = record {
+    store = nowhere;
+    settings = λ in-range. record { flags = flags-in (s .settings .flags) (w .governed) (w .raised) (in-range .flags) small; mask = in-range .mask; mode = in-range .mode };
+  }
+
   loaded : (p n v : ℕ) (e : Effect) → Kept e → Kept (load p n v e)
   loaded p n v e k = picked Kept (eqb p 0) _ _ (λ t. k) (λ t. record { store = k .store; settings = k .settings })
 
@@ -77,16 +86,10 @@ module _ (s : State) where
       picked Kept (illegalLoad (reg s l) || illegalStore (reg s m) (reg s n)) _ _ (λ t. illegal-kept) (λ t.
       loaded (reg s l) n _ (store (reg s m) (reg s n) (still s)) (stored (reg s m) (reg s n) (or-right (illegalLoad (reg s l)) _ t) (or-right (faults (length (s .cells)) (reg s l)) _ (passed _ 5 h))))
   safe (Put n v) h = record { store = nowhere; settings = λ r. r }
-  safe (Operate op n x y) h = record {
-    store = nowhere;
-    settings = λ in-range. record {
-      flags = flags-in (s .settings .flags) _ _ (in-range .flags) (omega (arith, raised-below op (valueOf s x) (valueOf s y) (reg s n) (s .settings .flags)));
-      mask = in-range .mask;
-      mode = in-range .mode;
-    };
-  }
+  safe (Operate op n x y) h = resulted n _ (omega (arith, raised-below op (valueOf s x) (valueOf s y) (reg s n) (s .settings .flags)))
   safe (Split x n m l) h = record { store = nowhere; settings = λ r. r }
   safe (Bz n imm) h = picked Kept (eqb (reg s n) 0) _ _ (λ t. record { store = nowhere; settings = λ r. r }) (λ t. kept)
   safe (Int n imm) h = record { store = nowhere; settings = λ r. r }
+  safe (Calculate op n x y) h = resulted n _ (omega (arith, float.raised-below op (valueOf s x) (valueOf s y)))
   safe Float h = kept
   safe Illegal h = illegal-kept

@@ -1,12 +1,13 @@
--- What an action does, as a value: document 01, 'One step'; where LDST may load from: document 02, 2026-05.
+-- What an action does, as a value: document 01, 'One step'; where LDST may load from: document 02, 2026-05; floats: 2026-06.
 use Prim.Native.Nat.{ℕ, _/_, _%_}
 use mathlib.Core.Bool.{Bool, cond, _&&_, _||_}
 use lib.Dec.{leb, ltb, eqb}
 use Rattle.half.specs.Half.{seOf, extended}
 use Rattle.word.specs.Word.{writtenOf}
+use Rattle.float.specs.Float.{calculatedOf}
 use Rattle.machine.specs.State.{State, flagsBound, firstSpecial}
 use Rattle.effect.specs.Parts.{Interrupt, Effect, still, _then_, writeA, writeB, gain, say, result, illegal, store, load}
-use Rattle.effect.specs.Action.{Action, Cpswp, Ldst, Put, Operate, Split, Bz, Int, Float, Illegal}
+use Rattle.effect.specs.Action.{Action, Cpswp, Ldst, Put, Operate, Split, Bz, Int, Calculate, Float, Illegal}
 use Rattle.machine.specs.Addresses.{maskAddress, modeAddress, hostAddress, hostLast}
 use Rattle.effect.specs.Operands.{reg, valueOf, behind}
 
@@ -38,7 +39,9 @@ effectOf (Split x n m l) s = still s then writeA m (extended x (reg s n % 65536)
 effectOf (Bz n imm) s = cond (eqb (reg s n) 0) (still s then gain (seOf imm)) (still s)
 -- 122: nothing but its answer
 effectOf (Int n imm) s = still s then say (Interrupt (reg s n) imm)
--- 80 to 106 are refused, so that nothing is carried out
+-- 80 to 83, 89, 90, 93 to 96, 102 to 104
+effectOf (Calculate op n x y) s = still s then result n (calculatedOf op (valueOf s x) (valueOf s y))
+-- the others of 80 to 106 are refused, so that nothing is carried out
 effectOf Float s = still s
 -- all reserved opcodes
 effectOf Illegal s = still s then illegal

@@ -1,4 +1,4 @@
--- The stops that the instruction itself names: document 01, 'Stops of step, run and back'; 13 is that of document 02, 2026-04.
+-- The stops that the instruction itself names: document 01, 'Stops of step, run and back'; 13 is that of document 02, 2026-04, and floats run by 2026-06.
 use Prim.Native.Nat.{ℕ}
 use mathlib.Core.Bool.{Bool, cond, _&&_, _||_}
 use mathlib.Core.Option.{Option, none, some}
@@ -10,7 +10,7 @@ use lib.Signed.{ltZ}
 use mir.Syntax.{w16}
 use mir.Val.{toZ}
 use Rattle.machine.specs.State.{State, firstSpecial, pcOf}
-use Rattle.effect.specs.Action.{Action, Cpswp, Ldst, Put, Operate, Split, Bz, Int, Float, Illegal}
+use Rattle.effect.specs.Action.{Action, Cpswp, Ldst, Put, Operate, Split, Bz, Int, Calculate, Float, Illegal}
 use Rattle.effect.specs.Operands.{operandOf, reg}
 
 -- a pointer past the M cells and below the special addresses
@@ -31,8 +31,9 @@ wild regs n imm = eqb (operandOf regs n) 0 && belowZero (targetOf (pcOf regs) im
 unfoldable pub refusedBy : Action → State → Option ℕ
 -- 5: either pointer, whatever the other one is
 refusedBy (Ldst n m l) s = cond (faults (length (s .cells)) (reg s l) || faults (length (s .cells)) (reg s m)) (some 5) none
--- 6: float arithmetic
+-- 6: float arithmetic that is out, and all of it where the rounding mode is another than 3
 refusedBy Float s = some 6
+refusedBy (Calculate op n x y) s = cond (eqb (s .settings .mode) 3) none (some 6)
 -- 13: a wild jump
 refusedBy (Bz n imm) s = cond (wild (s .regs) n imm) (some 13) none
 -- all others are done

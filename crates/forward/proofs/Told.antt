@@ -9,12 +9,13 @@ use native.Mathlib.Omega.{arith}
 use lib.Dec.{eqb}
 use lib.ListN.{length}
 use Rattle.word.proofs.Bounds.{raised-below}
+use Rattle.float.proofs.Bounds as float
 use Rattle.cell.specs.Cell.{opcodeOf, decodeOf}
 use Rattle.cell.proofs.Tests.{never}
 use Rattle.machine.specs.Addresses.{maskAddress, modeAddress}
 use Rattle.machine.specs.State.{State, flagsBound}
 use Rattle.machine.proofs.Tests.{picked}
-use Rattle.effect.specs.Action.{Action, Cpswp, Ldst, Put, Operate, Split, Bz, Int, Float, Illegal, actionOf}
+use Rattle.effect.specs.Action.{Action, Cpswp, Ldst, Put, Operate, Split, Bz, Int, Calculate, Float, Illegal, actionOf}
 use Rattle.effect.specs.Operands.{reg, valueOf, behind}
 use Rattle.effect.specs.Parts.{Onward, Effect, still, store, load}
 use Rattle.effect.specs.Effect.{illegalLoad, illegalStore, effectOf}
@@ -30,6 +31,7 @@ interrupts (Operate op n x y) = false
 interrupts (Split x n m l) = false
 interrupts (Bz n imm) = false
 interrupts (Int n imm) = true
+interrupts (Calculate op n x y) = false
 interrupts Float = false
 interrupts Illegal = false
 
@@ -45,6 +47,7 @@ quiet c h = by-rows Quiet c (record {
   split = λ e. refl;
   bz = refl;
   int = λ t. never (cc);
+  calculate = λ op n v w. refl;
   float = refl;
   illegal = refl;
 })
@@ -78,21 +81,27 @@ module _ (s : State) where
   plain-by (Split x n m l) q = record { answer = refl; raised = omega arith }
   plain-by (Bz n imm) q = picked Plain (eqb (reg s n) 0) _ _ (λ t. record { answer = refl; raised = omega arith }) (λ t. stays)
   plain-by (Int n imm) q = never (cc)
+  plain-by (Calculate op n x y) q = record { answer = refl; raised = omega (arith, float.raised-below op (valueOf s x) (valueOf s y)) }
   plain-by Float q = stays
   plain-by Illegal q = record { answer = refl; raised = omega arith }
 
   pub plain : (c : ℕ) → eqb (opcodeOf c) 122 ≡ false → Plain (effectOf (actionOf (decodeOf c)) s)
   plain c h = plain-by _ (quiet c h)
 
-  -- a stop that a test names
+  -- a stop that a test names, and one that it spares
   named-by : (t : Bool) (j k : ℕ) → cond t (some j) none ≡ some k → k ≡ j
   named-by true j k h = cc
   named-by false j k h = never (cc)
+
+  spared-by : (t : Bool) (j k : ℕ) → cond t none (some j) ≡ some k → k ≡ j
+  spared-by true j k h = never (cc)
+  spared-by false j k h = cc
 
   pub own-stop : (a : Action) (k : ℕ) → refusedBy a s ≡ some k → (k ≡ 5) ⊎ ((k ≡ 6) ⊎ (k ≡ 13))
   unfolding refusedBy
   own-stop (Ldst n m l) k h = inl (named-by (faults (length (s .cells)) (reg s l) || faults (length (s .cells)) (reg s m)) 5 k h)
   own-stop Float k h = inr (inl (cc))
+  own-stop (Calculate op n x y) k h = inr (inl (spared-by (eqb (s .settings .mode) 3) 6 k h))
   own-stop (Bz n imm) k h = inr (inr (named-by (wild (s .regs) n imm) 13 k h))
   own-stop (Cpswp n m l) k h = never (cc)
   own-stop (Put n v) k h = never (cc)

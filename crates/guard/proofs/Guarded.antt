@@ -92,6 +92,7 @@ module _ (s : State) (cell : ℕ) where
     split = λ e. refl;
     bz = refl;
     int = λ t. refl;
+    calculate = λ op n v w. refl;
     float = refl;
     illegal = refl;
   })

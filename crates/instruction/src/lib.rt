@@ -4,7 +4,7 @@ ghost use lib.ListN.{length};
 ghost use Rattle.cell.specs.Cell.{decodeOf};
 ghost use Rattle.effect.specs.Action.{actionOf};
 ghost use Rattle.carried.specs.Left.{left, leftOf, before};
-use carried::Told;
+use calculation::calculated;
 use carried::illegal;
 use cell::opcode_of;
 use half::Extension;
@@ -80,10 +80,7 @@ pub fn carry_out(
         52 => turned(part, regs, s, cell, told, Op::Ugt),
         53 => turned(part, regs, s, cell, told, Op::Sgt),
         54 => split(part, regs, s, cell, Extension::Se),
-        80..=106 => {
-            *told = Told::FLOAT;
-            s
-        }
+        80..=106 => calculated(part, regs, s, cell, told),
         107 => split(part, regs, s, cell, Extension::Ex),
         121 => branch(part, regs, s, cell, told),
         122 => interrupt(part, regs, s, cell, told),

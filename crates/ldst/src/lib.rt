@@ -293,15 +293,16 @@ pub fn transfer(
     let pc = regs[255];
     let old = regs[i];
     regs[255] = next_of(pc);
-    let x = regs[m];
     let y = regs[l];
+    let x = regs[m];
     let size = memory(cells.len());
     if x == 0 {
         let k = index_of(y);
         if 0 < k {
             if k < size {
+                let v = cells[k];
                 enter(part, load_entry(pc, s, n, old));
-                regs[i] = cells[k];
+                regs[i] = v;
                 return s;
             }
         }

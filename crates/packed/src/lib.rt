@@ -40,3 +40,10 @@ pub fn flags_of(s: u32) -> u32
 {
     s % Settings::FLAGS_BOUND
 }
+
+// The rounding mode of a word.
+pub fn mode_of(s: u32) -> u32
+    ensures { λ r. ⌜ r ≡ unpackedOf s .mode ⌝ }
+{
+    s / MODE_UNIT
+}

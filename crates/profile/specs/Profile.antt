@@ -5,7 +5,7 @@ use mathlib.Core.List.{List}
 use lib.Dec.{ltb, eqb}
 use lib.ListN.{getD, length}
 use Rattle.cell.specs.Cell.{decodeOf}
-use Rattle.effect.specs.Action.{Action, Cpswp, Ldst, Put, Operate, Split, Bz, Int, Float, Illegal, actionOf, Value, R, Imm, Extended, Lower, Upper}
+use Rattle.effect.specs.Action.{Action, Cpswp, Ldst, Put, Operate, Split, Bz, Int, Calculate, Float, Illegal, actionOf, Value, R, Imm, Extended, Lower, Upper}
 use Rattle.profile.specs.declared.Flaw.the-variants as flaw
 use Rattle.profile.specs.declared.Judged.{Judged}
 use Rattle.profile.specs.declared.Judged.the-variants.{Allowed, Flawed}
@@ -37,6 +37,7 @@ judgedBy (Operate op n x y) = into n Allowed
 judgedBy (Split x n m l) = into m (into l Allowed)
 judgedBy (Bz n imm) = ahead imm
 judgedBy (Int n imm) = Flawed flaw.Int
+judgedBy (Calculate op n x y) = Flawed flaw.Float
 judgedBy Float = Flawed flaw.Float
 judgedBy Illegal = Flawed flaw.Reserved
 

@@ -7,7 +7,7 @@ use lib.Bits.{bitAnd}
 use lib.Dec.{leb, ltb, eqb}
 use lib.ListN.{getD, length}
 use Rattle.cell.specs.Cell.{decodeOf}
-use Rattle.effect.specs.Action.{Action, Cpswp, Ldst, Put, Operate, Split, Bz, Int, Float, Illegal, actionOf}
+use Rattle.effect.specs.Action.{Action, Cpswp, Ldst, Put, Operate, Split, Bz, Int, Calculate, Float, Illegal, actionOf}
 use Rattle.effect.specs.Operands.{reg}
 use Rattle.effect.specs.Refusal.{refusedBy}
 use Rattle.effect.specs.Parts.{Effect, Answer, Onward, Interrupt}
@@ -41,6 +41,7 @@ storesInto l (Operate op n x y) s = false
 storesInto l (Split x n m k) s = false
 storesInto l (Bz n imm) s = false
 storesInto l (Int n imm) s = false
+storesInto l (Calculate op n x y) s = false
 storesInto l Float s = false
 storesInto l Illegal s = false
 

@@ -14,7 +14,7 @@ use Rattle.verdict.specs.Verdict.{verdictOf}
 -- why a cell is not allowed
 abbrev pub flawText : Flaw → List ℕ
 flawText flaw.Reserved = bytes "not allowed: the opcode is reserved\n"
-flawText flaw.Float = bytes "not allowed: opcodes 80 to 106 do not run\n"
+flawText flaw.Float = bytes "not allowed: opcodes 80 to 106 are for floats\n"
 flawText flaw.Int = bytes "not allowed: INT would stop the rule\n"
 flawText flaw.Back = bytes "not allowed: the branch goes back\n"
 flawText flaw.Target = bytes "not allowed: R255 is a target, which it may be in LDUI R255, #65535 alone\n"

@@ -49,7 +49,7 @@ fn put_flaw(text: &mut [u8], at: usize, flaw: Flaw) -> usize
 {
     match flaw {
         Flaw::Reserved => put(text, at, b"not allowed: the opcode is reserved\n"),
-        Flaw::Float => put(text, at, b"not allowed: opcodes 80 to 106 do not run\n"),
+        Flaw::Float => put(text, at, b"not allowed: opcodes 80 to 106 are for floats\n"),
         Flaw::Int => put(text, at, b"not allowed: INT would stop the rule\n"),
         Flaw::Back => put(text, at, b"not allowed: the branch goes back\n"),
         Flaw::Target => put(

@@ -159,6 +159,9 @@ branch-requires c κs = search needs
 interrupt-requires : tie.Need-interrupt-requires
 interrupt-requires c κs = search needs
 
+calculated-requires : tie.Need-calculated-requires
+calculated-requires c κs = search needs
+
 illegal-requires : tie.Need-illegal-requires
 illegal-requires c κs = search needs
 
@@ -497,11 +500,14 @@ same-length-50 c = search needs
 returns-49 : tie.Need-returns-49
 returns-49 c = λ long. arm (c .before .before .before .before .before .before .before .before .before .before .args .cell) 122 _ _ _ _ _ (c .before .before .before .before .before .before .before .opcode-of .ensures .0) (c .before .before .before .before .before .before .match .keys49) (int _) (c .before .before .interrupt .ensures _ _ long)
 
-returns-50 : tie.Need-returns-50
-returns-50 c = λ long. floats _ _ _ _ _ _ _ _ (c .before .before .before .opcode-of .ensures .0) (c .before .if1 .left) (c .if2 .taken) (search needs)
-
 same-length-51 : tie.Need-same-length-51
 same-length-51 c = search needs
+
+returns-50 : tie.Need-returns-50
+returns-50 c = λ long. rw (floats _ _ (c .before .before .before .before .before .before .before .before .before .opcode-of .ensures .0) (c .before .before .before .before .before .before .before .if1 .left) (c .before .before .before .before .before .before .if2 .taken)) (c .before .before .calculated .ensures _ _ long)
+
+same-length-52 : tie.Need-same-length-52
+same-length-52 c = search needs
 
 returns-51 : tie.Need-returns-51
 returns-51 c = λ long. rw (others _ _ (c .before .before .before .before .before .before .before .before .opcode-of .ensures .0) (c .before .before .before .before .before .before .before .before .opcode-of .ensures .1) (c .before .before .before .before .before .before .before .match .rest) (⊎-elim (λ t. inl (t .taken)) (λ t. inr (t .1 .left)) (c .before .before .before .before .before .before .if1 .came))) (c .before .before .illegal .ensures _ _)
@@ -560,6 +566,7 @@ carry-out-spec =
     split-requires-2
     branch-requires
     interrupt-requires
+    calculated-requires
     illegal-requires
     same-length
     returns
@@ -660,6 +667,7 @@ carry-out-spec =
     returns-48
     same-length-50
     returns-49
-    returns-50
     same-length-51
+    returns-50
+    same-length-52
     returns-51)

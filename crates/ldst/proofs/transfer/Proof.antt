@@ -60,23 +60,29 @@ next-of-requires c κs = search needs
 element-write-regs : tie.Need-element-write-regs
 element-write-regs c = search needs
 
-mul-x : tie.Need-mul-x
-mul-x c = search needs
-
-element-copy-out-x : tie.Need-element-copy-out-x
-element-copy-out-x c = search needs
-
 mul-y : tie.Need-mul-y
 mul-y c = search needs
 
 element-copy-out-y : tie.Need-element-copy-out-y
 element-copy-out-y c = search needs
 
+mul-x : tie.Need-mul-x
+mul-x c = search needs
+
+element-copy-out-x : tie.Need-element-copy-out-x
+element-copy-out-x c = search needs
+
 memory-requires : tie.Need-memory-requires
 memory-requires c κs = search needs
 
 index-of-requires : tie.Need-index-of-requires
 index-of-requires c κs = search needs
+
+mul-v : tie.Need-mul-v
+mul-v c = search needs
+
+slice-read-v : tie.Need-slice-read-v
+slice-read-v c = search needs
 
 load-entry-requires : tie.Need-load-entry-requires
 load-entry-requires c κs = search needs
@@ -87,12 +93,6 @@ enter-requires c κs = search needs
 mul-regs : tie.Need-mul-regs
 mul-regs c = search needs
 
-slice-read-regs : tie.Need-slice-read-regs
-slice-read-regs c = search needs
-
-mul-regs-2 : tie.Need-mul-regs-2
-mul-regs-2 c = search needs
-
 element-write-regs-2 : tie.Need-element-write-regs-2
 element-write-regs-2 c = search needs
 
@@ -101,9 +101,9 @@ same-length c = search needs
 
 returns : tie.Need-returns
 returns c = λ long.
-    let entered = c .before .before .before in
+    let entered = c .before .before in
     let made = entered .before in
-    let below = made .before .before in
+    let below = made .before .before .before in
     let some = below .before in
     let zero = some .before .before in
     let d = zero .before in
@@ -186,17 +186,17 @@ transfer-spec =
     element-copy-out-old
     next-of-requires
     element-write-regs
-    mul-x
-    element-copy-out-x
     mul-y
     element-copy-out-y
+    mul-x
+    element-copy-out-x
     memory-requires
     index-of-requires
+    mul-v
+    slice-read-v
     load-entry-requires
     enter-requires
     mul-regs
-    slice-read-regs
-    mul-regs-2
     element-write-regs-2
     same-length
     returns

@@ -1,6 +1,7 @@
 -- `operation::immediate` meets its contract: Rn is read with the PC moved on, as an operand is, and imm is extended by se.
 use mathlib.Core.Path.{sym}
-use Rattle.operation.proofs.Operations.{reads, operated}
+use Rattle.carried.proofs.Results.{reads}
+use Rattle.operation.proofs.Operations.{operated}
 use borrow.Author.Needs.{needs}
 use Rattle.operation.proofs.immediate.Statement.{statement}
 use Rattle.operation.proofs.immediate.Tie as tie

@@ -1,5 +1,6 @@
 -- `operation::registers` meets its contract: Rm and Rl are read with the PC moved on, as operands are.
-use Rattle.operation.proofs.Operations.{reads, operated}
+use Rattle.carried.proofs.Results.{reads}
+use Rattle.operation.proofs.Operations.{operated}
 use borrow.Author.Needs.{needs}
 use Rattle.operation.proofs.registers.Statement.{statement}
 use Rattle.operation.proofs.registers.Tie as tie

@@ -1,6 +1,7 @@
 -- `operation::turned` meets its contract: the values of an immediate form, the second one first.
 use mathlib.Core.Path.{sym}
-use Rattle.operation.proofs.Operations.{reads, operated}
+use Rattle.carried.proofs.Results.{reads}
+use Rattle.operation.proofs.Operations.{operated}
 use borrow.Author.Needs.{needs}
 use Rattle.operation.proofs.turned.Statement.{statement}
 use Rattle.operation.proofs.turned.Tie as tie

@@ -1,4 +1,4 @@
--- What only the contract of a private function cites: nothing here is promised.
+-- What is left in register n, settings and what is told, for contracts of private functions.
 use Prim.Native.Nat.{ℕ}
 use mathlib.Core.Path.{_≡_}
 use mathlib.Core.Bool.{cond}

@@ -1,0 +1,11 @@
+pub mod Bounds
+pub mod Comparisons
+pub mod Known
+pub mod Operations
+pub mod Outcomes
+pub mod Read
+pub mod Results
+pub mod Scaled
+pub mod Signs
+pub mod Told
+pub mod WholeSum
