@@ -11,14 +11,6 @@ use Rattle.calculation.proofs.Done.{second-is}
 use borrow.Author.Needs.{needs}
 use Rattle.calculation.proofs.calculated.Statement.{statement}
 use Rattle.calculation.proofs.calculated.Tie as tie
-use Rattle.calculation.proofs.first.Reads as first-reads
-use Rattle.calculation.proofs.runs.Reads as runs-reads
-use Rattle.calculation.proofs.second.Reads as second-reads
-use Rattle.calculation.proofs.written.Reads as written-reads
-use Rattle.carried.proofs.keep_n.Reads as keep-n-reads
-use Rattle.carried.proofs.put.Reads as put-reads
-use Rattle.cell.proofs.opcode_of.Reads as opcode-of-reads
-use Rattle.packed.proofs.mode_of.Reads as mode-of-reads
 
 opcode-of-requires : tie.Need-opcode-of-requires
 opcode-of-requires c κs = search needs

@@ -5,9 +5,6 @@ use Rattle.cell.specs.Cell.{opcodeOf}
 use borrow.Author.Needs.{needs}
 use Rattle.calculation.proofs.first.Statement.{statement}
 use Rattle.calculation.proofs.first.Tie as tie
-use Rattle.cell.proofs.m_of.Reads as m-of-reads
-use Rattle.cell.proofs.n_of.Reads as n-of-reads
-use Rattle.cell.proofs.opcode_of.Reads as opcode-of-reads
 
 opcode-of-requires : tie.Need-opcode-of-requires
 opcode-of-requires c κs = search needs

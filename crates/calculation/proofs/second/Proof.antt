@@ -1,15 +1,10 @@
 -- `calculation::second` meets its contract, by the test of the opcode.
 -- Assumes nothing.
-use mathlib.Core.Path.{_∙_}
 use borrow.Author.Tests.{lt-ltb, le-ltb}
 use Rattle.cell.specs.Cell.{opcodeOf}
 use borrow.Author.Needs.{needs}
 use Rattle.calculation.proofs.second.Statement.{statement}
 use Rattle.calculation.proofs.second.Tie as tie
-use Rattle.cell.proofs.imm_of.Reads as imm-of-reads
-use Rattle.cell.proofs.l_of.Reads as l-of-reads
-use Rattle.cell.proofs.opcode_of.Reads as opcode-of-reads
-use Rattle.half.proofs.ex.Reads as ex-reads
 
 opcode-of-requires : tie.Need-opcode-of-requires
 opcode-of-requires c κs = search needs

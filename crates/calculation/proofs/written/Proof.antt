@@ -6,7 +6,6 @@ use Rattle.calculation.proofs.Writes.{given, turned, absent}
 use borrow.Author.Needs.{needs}
 use Rattle.calculation.proofs.written.Statement.{statement}
 use Rattle.calculation.proofs.written.Tie as tie
-use Rattle.float.proofs.calculate.Reads as calculate-reads
 
 calculate-requires : tie.Need-calculate-requires
 calculate-requires c κs = search needs
