@@ -46,16 +46,18 @@ use Rattle.machine.specs.declared.Stop.{Stop}
 use Rattle.machine.specs.State.{freshMachine, stateOf, badCells, badSettings, entriesIn}
 use Rattle.packed.specs.Packed.{packedOf, unpackedOf}
 use Rattle.journal.specs.declared.Entry.{Entry}
-use Rattle.journal.specs.Journal.{entered, firstIn, damagedOf, restored, cellsBefore}
+use Rattle.journal.specs.Journal.{entered, firstIn, damagedOf, restored, cellsBefore, settledOf}
 use Rattle.carried.specs.Left.{Left, left, leftOf, before}
 use Rattle.call.specs.declared.Checked.{Checked}
-use Rattle.machine.specs.Stops.{saidOf}
+use Rattle.machine.specs.Stops.{saidOf, plainly}
+use Rattle.machine.proofs.Named.{said-once}
 use Rattle.machine.specs.declared.Kind.{Kind}
 use Rattle.profile.specs.declared.Judged.{Judged}
 use Rattle.profile.specs.declared.Rule.{Rule}
 use Rattle.profile.specs.Profile.{judgedOf, ruleOf}
-use Rattle.step.specs.Step.{codeOf}
+use Rattle.step.specs.Step.{codeOf, outside}
 use Rattle.guard.specs.Guard.{guardedOf, storesBelow}
+use Rattle.stopped.specs.Stopped as stopped
 use Rattle.call.specs.Calls.{checkOf, saidBy, beginsOf, runOf, backOf}
 use Rattle.call.specs.Answers.{checkedOf, outOf}
 use Rattle.call.proofs.Named as calls
@@ -245,6 +247,26 @@ guard-once kind r t = unique
 
 pub writes-once : (guard size : ℕ) (regs : List ℕ) (cell : ℕ) (r t : Bool) → r ≡ storesBelow guard size regs cell → t ≡ storesBelow guard size regs cell → r ≡ t
 writes-once guard size regs cell r t = unique
+
+-- whether a step stops a run, the settings that are left, and the stop: `stops`, `settled`, `refusal`, `stop_after`, `stop_outside`, `stop_of`
+pub stops-once : (s told : ℕ) (r t : Bool) → r ≡ stopped.stopping told s → t ≡ stopped.stopping told s → r ≡ t
+stops-once s told r t = unique
+
+pub settled-once : (s : ℕ) (due : Bool) (r t : Settings) → r ≡ settledOf due (unpackedOf s) → t ≡ settledOf due (unpackedOf s) → r ≡ t
+settled-once s due r t = unique
+
+pub stop-refused-once : (told : ℕ) (r t : Stop) → saidOf r ≡ stopped.refusalBy told → saidOf t ≡ stopped.refusalBy told → r ≡ t
+stop-refused-once told r t p q = said-once r t (unique p q)
+
+pub stop-after-once : (regs : List ℕ) (told cell : ℕ) (r t : Stop) → saidOf r ≡ stopped.stopAfter told regs cell → saidOf t ≡ stopped.stopAfter told regs cell → r ≡ t
+stop-after-once regs told cell r t p q = said-once r t (unique p q)
+
+pub stop-outside-once : (kind : Kind) (r t : Stop) → saidOf r ≡ plainly (outside kind) → saidOf t ≡ plainly (outside kind) → r ≡ t
+stop-outside-once kind r t p q = said-once r t (unique p q)
+
+pub stop-of-once : (pc : ℕ) (kind : Kind) (limit done budget : ℕ) (r t : Stop) → saidOf r ≡ plainly (stopped.numberOf kind done budget limit pc)
+    → saidOf t ≡ plainly (stopped.numberOf kind done budget limit pc) → r ≡ t
+stop-of-once pc kind limit done budget r t p q = said-once r t (unique p q)
 
 pub lesser-once : (number most r t : ℕ) → r ≡ min number most → t ≡ min number most → r ≡ t
 lesser-once number most r t = unique

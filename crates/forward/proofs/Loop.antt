@@ -24,7 +24,8 @@ use Rattle.journal.proofs.Room.{at-most, entries}
 use Rattle.step.specs.Step.{codeOf}
 use Rattle.call.specs.Calls.{Out, stopAt, runFrom}
 use Rattle.carried.specs.Left.{left, leftOf, before}
-use Rattle.forward.specs.Inner.{heldOf, stopping, movedBy, goOnBy, resumeOf}
+use Rattle.stopped.specs.Stopped.{stopping}
+use Rattle.forward.specs.Inner.{heldOf, movedBy, goOnBy, resumeOf}
 use Rattle.guard.specs.Guard.{guardedOf, storesBelow}
 use Rattle.step.proofs.Keeps.{code-within}
 use Rattle.forward.proofs.Steps.{Goes, overwrites, stepped}

@@ -20,7 +20,8 @@ use Rattle.step.specs.Step.{codeOf, outside, going, stopped, refusalOf, stepOf}
 use Rattle.step.proofs.Steps.{refused-with, at-end, off-code, full}
 use Rattle.call.specs.Calls.{stopAt, goOn, runFrom}
 use Rattle.carried.specs.Left.{toldInt, toldFault}
-use Rattle.forward.specs.Inner.{heldOf, trapped, stopping, movedBy, endsBy, finalOf, resumeOf, numberOf}
+use Rattle.stopped.specs.Stopped.{trapped, stopping, endsBy, numberOf}
+use Rattle.forward.specs.Inner.{heldOf, movedBy, finalOf, resumeOf}
 
 -- a step that does not stop the run
 module _ (kind : Kind) (n k told : ℕ) (regs : List ℕ) (s cell depth : ℕ) (host cells journal : List ℕ) (st : State)

@@ -35,7 +35,8 @@ use Rattle.step.specs.Step.{codeOf, guardOf, going, stopped, effectIn, refusalO
 use Rattle.step.proofs.Steps.{refused-with, done-with, looked-at}
 use Rattle.carried.specs.Left.{Left, left, leftOf, doneBy, before, toldBy, toldInt, toldFault, toldRefused}
 use Rattle.carried.proofs.Operands.{read}
-use Rattle.forward.specs.Inner.{heldOf, refusalBy, courseBy, movedBy}
+use Rattle.stopped.specs.Stopped.{refusalBy}
+use Rattle.forward.specs.Inner.{heldOf, courseBy, movedBy}
 use Rattle.guard.specs.Guard.{guardedOf, storesBelow}
 use Rattle.guard.proofs.Guarded.{passes, caught}
 use Rattle.forward.proofs.Told.{plain, own-stop}

@@ -1,20 +1,18 @@
 -- What only the contracts of private functions cite: what a run comes to, a step from what it told and left, and a run whose flag 256 is still to be
 -- set.
 use Prim.Native.Nat.{ℕ, _+_}
-use mathlib.Core.Bool.{Bool, cond, not, _&&_, _||_}
+use mathlib.Core.Bool.{cond}
 use mathlib.Core.List.{List}
-use lib.Bits.{bitAnd}
-use lib.Dec.{leb, ltb, eqb}
-use lib.ListN.{getD}
-use Rattle.cell.specs.Cell.{nOf, immOf}
-use Rattle.machine.specs.State.{State, stateWith, firstSpecial, pcOf}
-use Rattle.machine.specs.Stops.{Said, plainly, interrupted, saidOf}
+use lib.Dec.{ltb}
+use Rattle.machine.specs.State.{State, stateWith, pcOf}
+use Rattle.machine.specs.Stops.{plainly, saidOf}
 use Rattle.machine.specs.declared.Kind.{Kind}
 use Rattle.packed.specs.Packed.{unpackedOf}
 use Rattle.journal.specs.Journal.{endedOf, settledOf}
-use Rattle.step.specs.Step.{outside, Course, going, stopped, refused, Moved}
+use Rattle.step.specs.Step.{Course, going, stopped, refused, Moved}
 use Rattle.call.specs.Calls.{Out, stopAt, goOn, runFrom}
-use Rattle.carried.specs.Left.{toldInt, toldFault, toldFloat}
+use Rattle.carried.specs.Left.{toldFault}
+use Rattle.stopped.specs.Stopped.{stopping, refusalBy, stopAfter, endsBy}
 use Rattle.forward.specs.declared.after.Upshot.{Upshot}
 
 -- the state that the code holds
@@ -24,24 +22,6 @@ heldOf regs s depth host cells journal = stateWith regs (unpackedOf s) depth hos
 -- what a run comes to, with the registers, cells and journal that it left and the host's words
 abbrev pub outBy : Upshot → List ℕ → List ℕ → List ℕ → List ℕ → Out
 outBy u regs host cells journal = record { state = stateWith regs (u .settings) (u .depth) host cells journal; said = saidOf (u .stop); count = u .count }
-
--- the mask has a flag that was told
-abbrev pub trapped : ℕ → ℕ → Bool
-trapped told s = not (eqb (bitAnd told (unpackedOf s .mask)) 0)
-
--- a step that told this stops the run
-abbrev pub stopping : ℕ → ℕ → Bool
-stopping told s = leb toldInt told || trapped told s
-
--- the stop of a step that is refused: 5, 6 or 13
-abbrev pub refusalBy : ℕ → Said
-refusalBy told = plainly (cond (eqb told toldFault) 5 (cond (eqb told toldFloat) 6 13))
-
--- the stop after a step that is done and stops: 1, 3, 2
-abbrev pub stopAfter : ℕ → List ℕ → ℕ → Said
-stopAfter told regs cell =
-    cond (endedOf regs) (plainly 1)
-    (cond (eqb told toldInt) (interrupted (getD regs (nOf cell) 0) (immOf cell)) (plainly 2))
 
 -- what becomes of a step that is done
 abbrev pub courseBy : ℕ → List ℕ → ℕ → ℕ → Course
@@ -58,10 +38,7 @@ movedBy told regs s cell depth host cells journal =
 abbrev pub goOnBy : (ℕ → State → Out) → ℕ → Moved → Out
 goOnBy rest k m = goOn rest (m .course) k (m .state)
 
--- the last of the steps that are done has ended the run, and its settings
-abbrev pub endsBy : ℕ → ℕ → Bool
-endsBy done pc = ltb 0 done && leb firstSpecial pc
-
+-- the state that is left, with flag 256 if the last of the steps that are done has ended the run
 abbrev pub finalOf : ℕ → List ℕ → ℕ → ℕ → List ℕ → List ℕ → List ℕ → State
 finalOf done regs s depth host cells journal = stateWith regs (settledOf (endsBy done (pcOf regs)) (unpackedOf s)) depth host cells journal
 
@@ -69,11 +46,3 @@ finalOf done regs s depth host cells journal = stateWith regs (settledOf (endsBy
 unfoldable pub resumeOf : Kind → ℕ → ℕ → List ℕ → ℕ → ℕ → List ℕ → List ℕ → List ℕ → Out
 resumeOf kind n k regs s depth host cells journal =
     cond (endsBy k (pcOf regs)) (stopAt (plainly 1) k (finalOf k regs s depth host cells journal)) (runFrom kind n k (heldOf regs s depth host cells journal))
-
--- the stop's number of a run that no step stopped
-abbrev pub numberOf : Kind → ℕ → ℕ → ℕ → ℕ → ℕ
-numberOf kind done budget limit pc =
-    cond (endsBy done pc) 1
-    (cond (eqb done budget) 0
-    (cond (leb firstSpecial pc) 1
-    (cond (leb limit pc) (outside kind) 7)))

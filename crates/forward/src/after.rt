@@ -6,21 +6,21 @@ ghost use mathlib.Core.Logic.{_⊎_};
 ghost use Prim.Native.Nat.{ℕ, _+_, _-_, _≤_, _<_};
 ghost use lib.ListN.{length};
 ghost use Rattle.machine.specs.State.{State, capacityOf, pcOf};
-ghost use Rattle.machine.specs.Stops.{saidOf, plainly};
-ghost use Rattle.packed.specs.Packed.{unpackedOf};
-ghost use Rattle.journal.specs.Journal.{settledOf};
-ghost use Rattle.step.specs.Step.{codeOf, outside};
+ghost use Rattle.machine.specs.Stops.{saidOf};
+ghost use Rattle.step.specs.Step.{codeOf};
 ghost use Rattle.call.specs.Calls.{Out, stopAt};
-ghost use Rattle.forward.specs.Inner.{outBy, heldOf, stopping, refusalBy, stopAfter, movedBy, goOnBy, resumeOf, numberOf};
+ghost use Rattle.stopped.specs.Stopped.{stopping};
+ghost use Rattle.forward.specs.Inner.{outBy, heldOf, movedBy, goOnBy, resumeOf};
 use carried::Told;
-use cell::imm_of;
-use cell::n_of;
 use machine::Address;
 use machine::Kind;
 use machine::Settings;
 use machine::Stop;
 use packed::unpack;
-use word::Flag;
+use stopped::refusal;
+use stopped::settled;
+use stopped::stop_after;
+use stopped::stop_of;
 
 // What a run comes to: all that it leaves but the registers, which it was lent, and the host's words, which are as they were.
 pub(crate) struct Upshot {
@@ -28,62 +28,6 @@ pub(crate) struct Upshot {
     pub depth: u32,
     pub stop: Stop,
     pub count: u64,
-}
-
-// Whether a step that told something stops the run.
-pub(crate) fn stops(s: u32, told: u32) -> bool
-    ensures { λ r. ⌜ r ≡ stopping told s ⌝ }
-{
-    if Told::INT <= told {
-        return true;
-    }
-    let settings = unpack(s);
-    settings.mask & told != 0
-}
-
-// Settings, with flag 256 if it is due.
-fn settled(s: u32, due: bool) -> Settings
-    ensures { λ r. ⌜ r ≡ settledOf due (unpackedOf s) ⌝ }
-{
-    let settings = unpack(s);
-    if due {
-        return Settings {
-            flags: settings.flags | Flag::TERMINATION,
-            mask: settings.mask,
-            mode: settings.mode,
-        };
-    }
-    settings
-}
-
-// The stop of a step that was refused: 5, 6 or 13.
-fn refusal(told: u32) -> Stop
-    ensures { λ r. ⌜ saidOf r ≡ refusalBy told ⌝ }
-{
-    if told == Told::FAULT {
-        return Stop::Fault;
-    }
-    if told == Told::FLOAT {
-        return Stop::Float;
-    }
-    Stop::Wild
-}
-
-// The stop after a step that is done and stops: 1, 3, 2.
-fn after(regs: &[u32; 256], told: u32, cell: u32) -> Stop
-    ensures { λ r. ⌜ saidOf r ≡ stopAfter told (now (regs .entry)) cell ⌝ }
-{
-    if Address::FLAGS <= regs[255] {
-        return Stop::Ended;
-    }
-    if told == Told::INT {
-        let i = n_of(cell) as usize;
-        return Stop::Int {
-            value: regs[i],
-            imm: imm_of(cell),
-        };
-    }
-    Stop::Trap
 }
 
 // What a run leaves whose next step is refused.
@@ -110,38 +54,9 @@ pub(crate) fn halt(regs: &[u32; 256], s: u32, depth: u32, done: u32, told: u32, 
     Upshot {
         settings: settled(s, Address::FLAGS <= regs[255]),
         depth: depth + done + 1,
-        stop: after(regs, told, cell),
+        stop: stop_after(regs, told, cell),
         count: done as u64 + 1,
     }
-}
-
-// The stop of a PC that is past the cells that a run may fetch from and has not ended.
-fn stop_outside(kind: Kind) -> Stop
-    ensures { λ r. ⌜ saidOf r ≡ plainly (outside kind) ⌝ }
-{
-    match kind {
-        Kind::Plain => Stop::Fetch,
-        Kind::Profile(_) => Stop::Outside,
-    }
-}
-
-// How a run stopped that no step stopped.
-fn stop_of(pc: u32, kind: Kind, limit: usize, done: u64, budget: u64) -> Stop
-    ensures { λ r. ⌜ saidOf r ≡ plainly (numberOf kind done budget limit pc) ⌝ }
-{
-    if (0 < done) & (Address::FLAGS <= pc) {
-        return Stop::Ended;
-    }
-    if done == budget {
-        return Stop::Done;
-    }
-    if Address::FLAGS <= pc {
-        return Stop::Ended;
-    }
-    if limit <= pc as usize {
-        return stop_outside(kind);
-    }
-    Stop::Full
 }
 
 // What a run leaves that no step stopped: PC is outside the code, the budget is done, or the journal is full.

@@ -16,7 +16,6 @@ use after::Upshot;
 use after::finish;
 use after::halt;
 use after::refused;
-use after::stops;
 use call::Checked;
 use call::Ran;
 use call::check_run;
@@ -32,6 +31,7 @@ use machine::Stop;
 use machine::capacity;
 use machine::index_of;
 use packed::pack;
+use stopped::stops;
 
 // As many steps as the budget says, or up to a stop, over lent registers and settings that are one word. Flag 256 is set once, at the end.
 fn run_over(

@@ -28,15 +28,15 @@ add-t13 c = search needs
 add-t14 : tie.Need-add-t14
 add-t14 c = search needs
 
-after-requires : tie.Need-after-requires
-after-requires c κs = search needs
+stop-after-requires : tie.Need-stop-after-requires
+stop-after-requires c κs = search needs
 
 add-t17 : tie.Need-add-t17
 add-t17 c = search needs
 
 returns-2 : tie.Need-returns-2
 unfolding movedBy
-returns-2 c = λ rest host cells journal. rw (lt-ltb _ _ (c .before .before .before .if1 .left), c .before .before .before .before .pre .1, c .before .settled .ensures, c .after .ensures)
+returns-2 c = λ rest host cells journal. rw (lt-ltb _ _ (c .before .before .before .if1 .left), c .before .before .before .before .pre .1, c .before .settled .ensures, c .stop-after .ensures)
 
 pub halt-spec : {M : Type 1} → statement M
 halt-spec =
@@ -49,6 +49,6 @@ halt-spec =
     settled-requires
     add-t13
     add-t14
-    after-requires
+    stop-after-requires
     add-t17
     returns-2)

@@ -1,9 +1,9 @@
--- `forward::after::after` meets its contract: the tests on PC and on what was told pick the stop.
+-- `stopped::stop_after` meets its contract: the tests on PC and on what was told pick the stop.
 -- Assumes nothing.
 use borrow.Author.Tests.{le-leb, lt-leb, ne-eqb}
 use borrow.Author.Needs.{needs}
-use Rattle.forward.proofs.after.after.Statement.{statement}
-use Rattle.forward.proofs.after.after.Tie as tie
+use Rattle.stopped.proofs.stop_after.Statement.{statement}
+use Rattle.stopped.proofs.stop_after.Tie as tie
 
 element-copy-out-if1 : tie.Need-element-copy-out-if1
 element-copy-out-if1 c = search needs
@@ -32,8 +32,8 @@ returns-2 c = rw (lt-leb _ _ (c .before .before .before .before .if1 .left), c .
 returns-3 : tie.Need-returns-3
 returns-3 c = rw (lt-leb _ _ (c .before .if1 .left), ne-eqb _ _ (c .if2 .left))
 
-pub after-spec : {M : Type 1} → statement M
-after-spec =
+pub stop-after-spec : {M : Type 1} → statement M
+stop-after-spec =
     tie.close
     (tie.spec
     element-copy-out-if1

@@ -1,8 +1,8 @@
--- `forward::after::settled` meets its contract: the test picks the case.
+-- `stopped::settled` meets its contract: the test picks the case.
 -- Assumes nothing.
 use borrow.Author.Needs.{needs}
-use Rattle.forward.proofs.after.settled.Statement.{statement}
-use Rattle.forward.proofs.after.settled.Tie as tie
+use Rattle.stopped.proofs.settled.Statement.{statement}
+use Rattle.stopped.proofs.settled.Tie as tie
 
 unpack-requires : tie.Need-unpack-requires
 unpack-requires c κs = search needs

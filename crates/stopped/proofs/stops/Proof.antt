@@ -1,11 +1,11 @@
--- `forward::after::stops` meets its contract: the test on what was told picks the case, and the two sides of `&` may be turned.
+-- `stopped::stops` meets its contract: the test on what was told picks the case, and the two sides of `&` may be turned.
 -- Assumes nothing.
 use lib.Bits.{and-comm}
 use Rattle.packed.specs.Packed.{unpackedOf}
 use borrow.Author.Tests.{le-leb, lt-leb}
 use borrow.Author.Needs.{needs}
-use Rattle.forward.proofs.after.stops.Statement.{statement}
-use Rattle.forward.proofs.after.stops.Tie as tie
+use Rattle.stopped.proofs.stops.Statement.{statement}
+use Rattle.stopped.proofs.stops.Tie as tie
 
 returns : tie.Need-returns
 returns c = rw (le-leb _ _ (c .if1 .taken))

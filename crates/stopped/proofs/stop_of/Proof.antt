@@ -1,9 +1,9 @@
--- `forward::after::stop_of` meets its contract: at each return the tests that led there pick the number.
+-- `stopped::stop_of` meets its contract: at each return the tests that led there pick the number.
 -- Assumes nothing.
 use borrow.Author.Tests.{eq-eqb, ne-eqb, le-leb, lt-leb}
 use borrow.Author.Needs.{needs}
-use Rattle.forward.proofs.after.stop_of.Statement.{statement}
-use Rattle.forward.proofs.after.stop_of.Tie as tie
+use Rattle.stopped.proofs.stop_of.Statement.{statement}
+use Rattle.stopped.proofs.stop_of.Tie as tie
 
 returns : tie.Need-returns
 returns c = rw (c .if1 .taken)

@@ -1,8 +1,8 @@
--- `forward::after::stop_outside` meets its contract: the kind of run picks the stop.
+-- `stopped::stop_outside` meets its contract: the kind of run picks the stop.
 -- Assumes nothing.
 use borrow.Author.Needs.{needs}
-use Rattle.forward.proofs.after.stop_outside.Statement.{statement}
-use Rattle.forward.proofs.after.stop_outside.Tie as tie
+use Rattle.stopped.proofs.stop_outside.Statement.{statement}
+use Rattle.stopped.proofs.stop_outside.Tie as tie
 
 enum-told : tie.Need-enum-told
 enum-told c = search needs

@@ -1,8 +1,8 @@
--- `forward::after::refusal` meets its contract: the tests pick the case.
+-- `stopped::refusal` meets its contract: the tests pick the case.
 -- Assumes nothing.
 use borrow.Author.Tests.{ne-eqb}
-use Rattle.forward.proofs.after.refusal.Statement.{statement}
-use Rattle.forward.proofs.after.refusal.Tie as tie
+use Rattle.stopped.proofs.refusal.Statement.{statement}
+use Rattle.stopped.proofs.refusal.Tie as tie
 
 returns : tie.Need-returns
 returns c = rw (c .if1 .taken)
