@@ -88,7 +88,7 @@ fn second(regs: &[u32; 256], cell: u32) -> u32
     ex(imm_of(cell))
 }
 
-// Register n gets what the operation makes of the two values, with its flags.
+// Register n gets what the operation makes of the two values, with its flags; in another mode than 3, and by an opcode that is out, nothing is done.
 pub fn calculated(part: &mut [u32], regs: &mut [u32; 256], s: u32, cell: u32, told: &mut u32) -> u32
     ensures { λ r. ⌜ ((host cells : List ℕ) → length (now (regs .entry)) ≡ 256 → left (now (regs .exit)) cells (now (part .exit)) r (now (told .exit))
         ≡ leftOf (now (told .entry)) (calculationOf cell) (before (now (regs .entry)) s host cells (now (part .entry)))) ⌝ }

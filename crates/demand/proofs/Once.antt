@@ -213,7 +213,7 @@ module _ (told : ℕ) (a : Action) (regs : List ℕ) (long : length regs ≡ 256
       let e = unique (p long) (q long) in
       (ap (λ (l : Left). l .regs) e, ap (λ (l : Left). l .cells) e, ap (λ (l : Left). l .part) e, ap (λ (l : Left). l .settings) e, ap (λ (l : Left). l .told) e)
 
-  -- One that is lent no cells promises it for all cells, and so for none: `registers`, `immediate`, `turned`, `branch`, `interrupt`, `illegal`; and `swap`,
+  -- One that is lent no cells promises it for all cells, and so for none: `registers`, `immediate`, `turned`, `calculated`, `branch`, `interrupt`, `illegal`; and `swap`,
   -- `load`, `split`, which tell nothing, and promise it for whatever was told.
   pub without-cells-once : (after after' noted noted' : List ℕ) (r t said said' : ℕ)
       → ((host cells : List ℕ) → length regs ≡ 256 → left after cells noted r said ≡ leftOf told a (before regs s host cells part))

@@ -106,12 +106,12 @@ module _ (s : State) (words : (i : ℕ) → Word (getD (s .regs) i 0)) (cell-wor
   unfolding effectOf
   out = stays
 
-  calculate : (op : FloatOp) (n : ℕ) (x y : Value) → n < 256 → Word (valueOf s x) → Word (valueOf s y) → Fine (Calculate op n x y)
+  calculate : (op : FloatOp) (n : ℕ) (x y : Value) → n < 256 → Fine (Calculate op n x y)
   unfolding effectOf
-  calculate op n x y n-fits p q = record { pc = stays .pc; a = (n-fits, float.value-below op _ _); b = unused; store = omega arith }
+  calculate op n x y n-fits = record { pc = stays .pc; a = (n-fits, float.value-below op _ _); b = unused; store = omega arith }
 
-  floated : (opcode n : ℕ) (x y : Value) → n < 256 → Word (valueOf s x) → Word (valueOf s y) → Fine (calculation opcode n x y)
-  floated opcode n x y n-fits p q = calculated Fine opcode n x y (λ op. calculate op n x y n-fits p q) (λ op. calculate op n y x n-fits q p) out
+  floated : (opcode n : ℕ) (x y : Value) → n < 256 → Fine (calculation opcode n x y)
+  floated opcode n x y n-fits = calculated Fine opcode n x y (λ op. calculate op n x y n-fits) (λ op. calculate op n y x n-fits) out
 
   operated : (a : Asked) (n : ℕ) (x y : Value) → n < 256 → Word (valueOf s x) → Word (valueOf s y) → Fine (operation a n x y)
   unfolding effectOf
@@ -130,7 +130,7 @@ module _ (s : State) (words : (i : ℕ) → Word (getD (s .regs) i 0)) (cell-wor
       picked Fine (eqb x 1) _ _ (λ t. ldst n m l (f .2)) (λ t.
       picked Fine (eqb x 54) _ _ (λ t. split Se n m l (f .3) (f .4)) (λ t.
       picked Fine (eqb x 107) _ _ (λ t. split Ex n m l (f .3) (f .4)) (λ t.
-      picked Fine (floats x) _ _ (λ t. floated x n (R m) (R l) (f .2) (reg-below m) (reg-below l)) (λ t.
+      picked Fine (floats x) _ _ (λ t. floated x n (R m) (R l) (f .2)) (λ t.
       operated (askedOf x) n (R m) (R l) (f .2) (reg-below m) (reg-below l))))))
   ranged (Immediate x n imm) f =
       let h = reg-below n in
@@ -141,6 +141,6 @@ module _ (s : State) (words : (i : ℕ) → Word (getD (s .regs) i 0)) (cell-wor
       picked Fine (eqb x 7) _ _ (λ t. put n (Extended Ex imm) (f .2) (extended-below Ex imm (f .3))) (λ t.
       picked Fine (eqb x 121) _ _ (λ t. bz n imm) (λ t.
       picked Fine (eqb x 122) _ _ (λ t. int n imm) (λ t.
-      picked Fine (floats x) _ _ (λ t. floated x n (R n) (Extended Ex imm) (f .2) h (extended-below Ex imm (f .3))) (λ t.
+      picked Fine (floats x) _ _ (λ t. floated x n (R n) (Extended Ex imm) (f .2)) (λ t.
       operated (askedOf x) n (R n) (Extended Se imm) (f .2) h (extended-below Se imm (f .3))))))))))
   ranged (Reserved c) f = reserved

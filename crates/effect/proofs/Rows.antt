@@ -17,11 +17,11 @@ use Rattle.machine.proofs.Tests.{picked}
 use Rattle.effect.specs.Action.{Value, Action, Cpswp, Ldst, Put, Operate, Split, Bz, Int, Calculate, Float, Illegal, among, operation, floats, calculations, calculation, actionOf}
 
 -- a law of every row of a table, and of what is left, is one of what is found in it
-abbrev pub All : (Action → Type 0) → List (ℕ × Action) → Type 0
+abbrev All : (Action → Type 0) → List (ℕ × Action) → Type 0
 All P [] = Unit
 All P (row ∷ rows) = P (row .1) × All P rows
 
-pub in-table : (P : Action → Type 0) (opcode : ℕ) (rows : List (ℕ × Action)) (other : Action) → All P rows → P other → P (among opcode rows other)
+in-table : (P : Action → Type 0) (opcode : ℕ) (rows : List (ℕ × Action)) (other : Action) → All P rows → P other → P (among opcode rows other)
 in-table P opcode [] other all left = left
 in-table P opcode (row ∷ rows) other all left = picked P (eqb opcode (row .0)) _ _ (λ t. all .0) (λ t. in-table P opcode rows other (all .1) left)
 
