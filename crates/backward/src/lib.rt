@@ -1,4 +1,7 @@
 // The call back: a machine by value, over cells and a journal that the host lends. PC and settings come once, from the last entry taken back.
+
+#![tactic(auto)]
+
 ghost use Rattle.std.specs.Prelude.{◌≡◌, cond, List, ℕ, ◌≤◌, ltb};
 ghost use Rattle.machine.specs.declared.Settings.{Settings};
 ghost use Rattle.machine.specs.State.{state_of, capacity_of};

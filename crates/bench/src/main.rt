@@ -2,6 +2,8 @@
 // asked, goes as many rounds as asked, each a run forward of budget 65,536 and 65,536 steps back or as many as asked, and writes one line
 // of what came of it.
 
+#![tactic(auto)]
+
 mod rounds;
 
 use job::Answer;

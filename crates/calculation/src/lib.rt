@@ -1,4 +1,7 @@
 // The float opcodes, 80 to 106: those that run, where the rounding mode is 3, and all others, which are out.
+
+#![tactic(auto)]
+
 ghost use Rattle.std.specs.Prelude.{◌≡◌, cond, List, ℕ, ◌<◌, length, get_or};
 ghost use Rattle.half.specs.Half.{ex_of};
 ghost use Rattle.cell.specs.Cell.{l_of, imm_of};

@@ -1,4 +1,7 @@
 // The calls that repeat a step: what a call begins with, and what it leaves beside cells and journal.
+
+#![tactic(auto)]
+
 ghost use Rattle.std.specs.Prelude.{◌≡◌, min};
 ghost use Rattle.call.specs.Calls.{check_of, said_by, begins_of};
 ghost use Rattle.call.specs.Answers.{checked_of};

@@ -1,6 +1,9 @@
 // An instruction carried out over lent registers, a word of settings and the part of the journal that its entry goes into: what it leaves is
 // defined here, with what they share: the next PC, an operand, a pointer's fault, and the steps of most of them, which write their entry
 // first, then PC.
+
+#![tactic(auto)]
+
 ghost use Rattle.std.specs.Prelude.{◌≡◌, ℕ, ◌+◌, ◌%◌, ◌<◌, List, set, if◌then◌else◌, nat_eq, slice_set};
 ghost use Rattle.cell.specs.Cell.{n_of};
 ghost use Rattle.effect.specs.Action.{Illegal};

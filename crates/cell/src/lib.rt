@@ -1,4 +1,7 @@
 // A cell as an instruction: where its numbers lie, decoding it, and encoding it from an opcode and operands.
+
+#![tactic(auto)]
+
 ghost use Rattle.std.specs.Prelude.{◌≡◌, ◌<◌};
 ghost use Rattle.cell.specs.Cell.{form_of, opcode_of, n_of, m_of, l_of, imm_of, decode_of, encode_of};
 ghost use Rattle.cell.specs.Answers.{encoded_reply};

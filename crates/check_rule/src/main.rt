@@ -1,5 +1,8 @@
 // Reads a job from standard input, checks its first cells, as many as the argument says, as a rule that only goes forward, and writes
 // what the check says to standard output.
+
+#![tactic(auto)]
+
 ghost use Rattle.std.specs.Prelude.{◌≡◌, take};
 ghost use Rattle.io.specs.Counts.{IsPrefixLen};
 ghost use Rattle.verdict.specs.Told.{text_of};

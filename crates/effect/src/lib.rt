@@ -1,1 +1,3 @@
 // What an instruction does, as a value: definitions and their laws. Nothing runs.
+
+#![tactic(auto)]

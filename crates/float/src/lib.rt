@@ -1,5 +1,8 @@
 // What a float operation does with two 32-bit operand values: the value that it writes, the flags that it governs, and those of them
 // that it writes as 1. The machine's own floats do the arithmetic.
+
+#![tactic(auto)]
+
 ghost use Rattle.std.specs.Prelude.{◌≡◌};
 ghost use Rattle.float.specs.Float.{calculated_of};
 

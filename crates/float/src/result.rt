@@ -8,7 +8,7 @@ use crate::pattern::is_finite;
 use word::{Flag, Written};
 
 // A float value, a float value from a division by zero, or an invalid operation.
-#[derive(Drop)]
+#[derive(Clone, Copy)]
 pub(crate) enum Outcome {
     Value(f32),
     ByZero(f32),

@@ -1,5 +1,8 @@
 // The calls run, profile run and step: a machine by value, over cells and a journal that the host lends. One loop for both kinds of run: one
 // counter, one test of PC, and the stops told apart after it.
+
+#![tactic(auto)]
+
 ghost use Rattle.std.specs.Prelude.{◌≡◌, ◌≤◌, length};
 ghost use Rattle.machine.specs.State.{state_of, capacity_of, most_cells, InRange};
 ghost use Rattle.machine.specs.declared.Kind.TheVariants.{Plain, Profile};

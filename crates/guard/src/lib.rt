@@ -1,4 +1,7 @@
 // What a run asks of PC and of a store before a step: a profile's code is all that it fetches from, and is not written.
+
+#![tactic(auto)]
+
 ghost use Rattle.std.specs.Prelude.{◌≡◌};
 ghost use Rattle.step.specs.Step.{code_of};
 ghost use Rattle.guard.specs.Guard.{guarded_of, stores_below};

@@ -1,9 +1,12 @@
 // Sixteen bits made 32: se for integers, ex for floats.
+
+#![tactic(auto)]
+
 ghost use Rattle.std.specs.Prelude.{◌≡◌};
 ghost use Rattle.half.specs.Half.{se_of, ex_of, extended};
 
 // The two ways to make 32 bits of 16.
-#[derive(Drop)]
+#[derive(Clone, Copy)]
 pub enum Extension {
     Se,
     Ex,

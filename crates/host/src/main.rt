@@ -1,4 +1,7 @@
 // Reads a job from standard input, runs it, and writes one line of what became of it.
+
+#![tactic(auto)]
+
 use call::Ran;
 use job::Answer;
 use libc::{STDIN_FILENO, STDOUT_FILENO};

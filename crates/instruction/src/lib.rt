@@ -1,4 +1,7 @@
 // The instruction that a cell is, carried out: one match on the opcode.
+
+#![tactic(auto)]
+
 ghost use Rattle.std.specs.Prelude.{◌≡◌, length};
 ghost use Rattle.cell.specs.Cell.{decode_of};
 ghost use Rattle.effect.specs.Action.{action_of};

@@ -1,4 +1,7 @@
 // What the programs take in, and the line that they write of a refused job.
+
+#![tactic(auto)]
+
 ghost use Rattle.std.specs.Prelude.{◌≤◌, length};
 ghost use Rattle.text.specs.Text.{Added};
 ghost use Rattle.intake.specs.Intake.{refused_text};

@@ -1,4 +1,7 @@
 // Jobs: a machine and its cells as records of bytes, loaded.
+
+#![tactic(auto)]
+
 ghost use Rattle.std.specs.Prelude.{◌≡◌};
 ghost use Rattle.job.specs.Job.{load_of};
 ghost use Rattle.job.specs.Answers.{load_with};

@@ -7,7 +7,7 @@ use lent::number;
 use machine::{Settings, good_settings};
 
 // A record's kind, or none.
-#[derive(Drop)]
+#[derive(Clone, Copy)]
 pub(crate) enum Kind {
     Run,
     Register,
@@ -18,7 +18,7 @@ pub(crate) enum Kind {
 }
 
 // A row of the table: a kind, its place in the order, and the least and the most bytes of its payload, which go up by fours from the least.
-#[derive(Drop)]
+#[derive(Clone, Copy)]
 pub(crate) struct Row {
     pub kind: Kind,
     pub rank: u32,
@@ -27,7 +27,7 @@ pub(crate) struct Row {
 }
 
 // What the records so far leave to the order: the last kind's place, the end of the last cells, the least register that may come.
-#[derive(Drop)]
+#[derive(Clone, Copy)]
 pub(crate) struct Past {
     pub rank: u32,
     pub end: u32,

@@ -1,4 +1,7 @@
 // The journal: an entry is written and read here, and a step is taken back by it. No other crate knows its words.
+
+#![tactic(auto)]
+
 ghost use Rattle.std.specs.Prelude.{◌≡◌, cond, not, ◌&&◌, ◌<◌, leb, ltb, length, set};
 ghost use Rattle.machine.specs.State.{write_if};
 ghost use Rattle.journal.specs.Words.{number_a, number_b};
@@ -7,7 +10,7 @@ ghost use Rattle.journal.specs.Journal.{entered, first_in, out_of_range, damaged
 use packed::Packed;
 
 // An entry: its fields are words 0 to 7. They hold what the step found, and 0 where it had no such part.
-#[derive(Drop)]
+#[derive(Clone, Copy)]
 pub struct Entry {
     pub pc: u32,
     pub settings: u32,

@@ -1,4 +1,7 @@
 // 121, BZ: the branch, and the wild jump that is refused.
+
+#![tactic(auto)]
+
 ghost use Rattle.std.specs.Prelude.{◌≡◌, ℕ, List, length};
 ghost use Rattle.cell.specs.Cell.{n_of, imm_of};
 ghost use Rattle.effect.specs.Action.{Bz};

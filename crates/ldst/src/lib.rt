@@ -1,4 +1,7 @@
 // 1, LDST: a store of Rn at Rm, then a load of Rn from Rl.
+
+#![tactic(auto)]
+
 ghost use Rattle.std.specs.Prelude.{◌≡◌, false, ℕ, ◌<◌, min, length, get_or, set};
 ghost use Rattle.cell.specs.Cell.{n_of, m_of, l_of};
 ghost use Rattle.machine.specs.State.{first_special, write_if};

@@ -1,5 +1,8 @@
 // What lent bytes and words are put to, by callers of every storey: how many there are of a number asked for, words made 0, and
 // little-endian numbers.
+
+#![tactic(auto)]
+
 ghost use Rattle.std.specs.Prelude.{◌≡◌, ◌+◌, ◌≤◌, min, length, replicate};
 ghost use Rattle.lent.specs.Lesser.{Lesser};
 ghost use Rattle.lent.specs.Little.{bytes_of, number_at};

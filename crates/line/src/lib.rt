@@ -1,4 +1,7 @@
 // A cell as a line of text: printing it into lent room.
+
+#![tactic(auto)]
+
 ghost use Rattle.std.specs.Prelude.{◌≡◌};
 ghost use Rattle.text.specs.Text.{Added};
 ghost use Rattle.line.specs.Line.{spelled, line_of, print_of};

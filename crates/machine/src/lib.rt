@@ -1,4 +1,7 @@
 // The machine by value, 256 registers, settings, depth and the host's words; what a call can say; what is asked of M, settings and journal.
+
+#![tactic(auto)]
+
 ghost use Rattle.std.specs.Prelude.{◌≡◌, not};
 ghost use Rattle.machine.specs.State.{fresh_machine, bad_cells, bad_settings, entries_in};
 ghost use Rattle.machine.specs.Stops.{said_of};
@@ -21,7 +24,7 @@ impl Address {
 }
 
 // The flags, the trap mask and the rounding mode.
-#[derive(Drop)]
+#[derive(Clone, Copy)]
 pub struct Settings {
     pub flags: u32,
     pub mask: u32,
@@ -35,7 +38,7 @@ impl Settings {
     pub const MODE_BOUND: u32 = 4;
 }
 
-#[derive(Drop)]
+#[derive(Clone, Copy)]
 pub struct Machine {
     pub regs: [u32; 256],
     pub settings: Settings,
@@ -67,7 +70,7 @@ impl Machine {
 }
 
 // A run: plain, or of the profile that only goes forward, whose code is so many cells from cell 0 on.
-#[derive(Drop)]
+#[derive(Clone, Copy)]
 pub enum Kind {
     Plain,
     Profile(usize),

@@ -1,4 +1,7 @@
 // The words that begin a line, each a mnemonic and a space, put into lent room.
+
+#![tactic(auto)]
+
 ghost use Rattle.std.specs.Prelude.{◌≡◌, ◌+◌, ◌*◌, ◌<◌, length, drop};
 ghost use Rattle.text.specs.Text.{Added};
 ghost use Rattle.mnemonic.specs.Mnemonic.{word_of};

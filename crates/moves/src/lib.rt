@@ -1,4 +1,7 @@
 // The instructions that move values into and between registers, and INT.
+
+#![tactic(auto)]
+
 ghost use Rattle.std.specs.Prelude.{◌≡◌, List, ℕ, ◌/◌, ◌<◌, length, set};
 ghost use Rattle.machine.specs.State.{State};
 ghost use Rattle.packed.specs.Packed.{unpacked_of};

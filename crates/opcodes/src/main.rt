@@ -1,4 +1,7 @@
 // Writes number, mnemonic and form of each legal opcode, a line each: the table of instructions in docs/MANUAL.md is held to these lines.
+
+#![tactic(auto)]
+
 use cell::Form;
 use libc::STDOUT_FILENO;
 

@@ -1,4 +1,7 @@
 // Opcodes 16 to 53: register n gets what an operation makes of two values, with its flags.
+
+#![tactic(auto)]
+
 ghost use Rattle.std.specs.Prelude.{◌≡◌, List, ℕ, ◌<◌, length, get_or};
 ghost use Rattle.half.specs.declared.Extension.TheVariants.{Se};
 ghost use Rattle.word.specs.Word.{written_of};

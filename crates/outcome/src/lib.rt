@@ -1,4 +1,7 @@
 // What becomes of a job: it is loaded and run, which gives a value, and the value is put as text into lent room.
+
+#![tactic(auto)]
+
 ghost use Rattle.std.specs.Prelude.{◌≡◌};
 ghost use Rattle.machine.specs.State.{fresh_machine};
 ghost use Rattle.outcome.specs.Outcome.{outcome_of};

@@ -1,4 +1,7 @@
 // Settings as one word, as word 1 of an entry has them: the flags lowest, then the mask, then the mode.
+
+#![tactic(auto)]
+
 ghost use Rattle.std.specs.Prelude.{◌≡◌};
 ghost use Rattle.packed.specs.Packed.{packed_of, unpacked_of};
 

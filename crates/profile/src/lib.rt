@@ -1,4 +1,7 @@
 // Rules that only go forward: which cells a profile allows, and the first cell of a rule that it does not.
+
+#![tactic(auto)]
+
 ghost use Rattle.std.specs.Prelude.{◌≡◌};
 ghost use Rattle.profile.specs.Profile.{into, ahead, judged_of, rule_of};
 

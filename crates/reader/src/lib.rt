@@ -1,4 +1,7 @@
 // Reading a cell's printed line back.
+
+#![tactic(auto)]
+
 ghost use Rattle.std.specs.Prelude.{◌≡◌, List, ℕ, drop};
 ghost use Rattle.reader.specs.Reader.{Reads};
 ghost use Rattle.reader.specs.Answers.{read_reply};

@@ -1,4 +1,7 @@
 // Reads a job from standard input, runs it, and writes what became of it to standard output.
+
+#![tactic(auto)]
+
 ghost use Rattle.std.specs.Prelude.{◌≡◌, take};
 ghost use Rattle.io.specs.Counts.{IsPrefixLen};
 ghost use Rattle.outcome.specs.Told.{text_of};

@@ -1,4 +1,7 @@
 // A machine and its cells saved as a job.
+
+#![tactic(auto)]
+
 ghost use Rattle.std.specs.Prelude.{◌≡◌};
 ghost use Rattle.saver.specs.Saving.{save_of};
 ghost use Rattle.saver.specs.Answers.{save_with};

@@ -1,5 +1,8 @@
 // How a run stopped: whether a step that told something stops it, which stop it is, and the settings with flag 256. All but the first is asked once,
 // after the loop.
+
+#![tactic(auto)]
+
 ghost use Rattle.std.specs.Prelude.{◌≡◌};
 ghost use Rattle.machine.specs.Stops.{said_of, plainly};
 ghost use Rattle.packed.specs.Packed.{unpacked_of};

@@ -1,6 +1,8 @@
 // Reads a file of trials from standard input and writes their answers to standard output: oracle/README.md has both forms. A trial's
 // cells, journal and room are made for it, so that nothing is left of the one before.
 
+#![tactic(auto)]
+
 mod calls;
 mod digests;
 mod jobs;

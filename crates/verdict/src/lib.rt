@@ -1,5 +1,8 @@
 // Whether a job's code is a rule that only goes forward: the job is loaded and checked, which gives a value, and the value is put as
 // text into lent room.
+
+#![tactic(auto)]
+
 ghost use Rattle.std.specs.Prelude.{◌≡◌, ◌≤◌, length};
 ghost use Rattle.machine.specs.State.{most_cells};
 ghost use Rattle.verdict.specs.Verdict.{checked_to, found_in, verdict_of, cells_of};

@@ -1,5 +1,8 @@
 // What an operation does with two 32-bit operand values: the value that it writes, the flags that it governs, and those of them
 // that it writes as 1.
+
+#![tactic(auto)]
+
 ghost use Rattle.std.specs.Prelude.{◌≡◌};
 ghost use Rattle.word.specs.Word.{written_of};
 
