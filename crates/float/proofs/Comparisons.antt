@@ -1,7 +1,7 @@
 -- The definition's comparisons are those of the logic's account of IEEE 754, and none holds with a NaN.
 -- Assumes nothing.
 use Prim.Native.Nat.{ℕ, zero, suc, ◌+◌, ◌*◌, ◌^◌, ◌<◌, compare, Ordering}
-use mathlib.Core.Bool.{Bool, true, false, not, ◌&&◌, ◌||◌, and_true, and_false, and_comm}
+use mathlib.Core.Bool.{Bool, true, false, not, ◌&&◌, ◌||◌, and-true, and-false, and_comm}
 use mathlib.Core.Path.{◌≡◌, refl, sym, ap, ◌∙◌}
 use native.Mathlib.Nat.{zero-add, zero-mul, add_comm, mul_comm, mul-pos}
 use native.Mathlib.Omega.{arith}
@@ -43,16 +43,16 @@ neither_less a b = go (compare a b) (cmp a b)
 both_zero : (a b : ℕ) → (eqb a b && eqb a 0) ≡ not (ltb 0 (a + b))
 both_zero zero zero = refl
 both_zero zero (suc b) = rw (ne_eqb 0 (suc b) (λ e. omega arith), lt-ltb 0 (0 + suc b) (omega arith))
-both_zero (suc a) b = rw (eqb-suc-zero a, lt-ltb 0 (suc a + b) (omega arith)) (and_false (eqb (suc a) b))
+both_zero (suc a) b = rw (eqb-suc-zero a, lt-ltb 0 (suc a + b) (omega arith)) (and-false (eqb (suc a) b))
 
 level_int : (s : Bool) (a : ℕ) (t : Bool) (b : ℕ) → Ieee.level s a t b ≡ (not (lt_z (int s a) (int t b)) && not (lt_z (int t b) (int s a)))
 level_int s a t b = rw (← below_int s a t b, ← below_int t b s a) (go s t)
   where
     go : (s t : Bool) → Ieee.level s a t b ≡ (not (Ieee.below s a t b) && not (Ieee.below t b s a))
-    go false false = and_true (eqb a b) ∙ neither_less a b
+    go false false = and-true (eqb a b) ∙ neither_less a b
     go false true = both_zero a b ∙ ap (λ (n : ℕ). not (ltb 0 n)) (add_comm a b)
-    go true false = both_zero a b ∙ sym (and_true (not (ltb 0 (a + b))))
-    go true true = and_true (eqb a b) ∙ neither_less a b ∙ and_comm (not (ltb a b)) (not (ltb b a))
+    go true false = both_zero a b ∙ sym (and-true (not (ltb 0 (a + b))))
+    go true true = and-true (eqb a b) ∙ neither_less a b ∙ and_comm (not (ltb a b)) (not (ltb b a))
 
 -- ---- finite values
 

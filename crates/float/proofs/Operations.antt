@@ -1,7 +1,7 @@
 -- The definition's sum, difference, product and quotient are those of the logic's account of IEEE 754, told in bits.
 -- Assumes nothing.
 use Prim.Native.Nat.{ℕ, ◌+◌, ◌-◌, ◌*◌, ◌^◌, ◌<◌, compare, Ordering}
-use mathlib.Core.Bool.{Bool, true, false, not, ◌&&◌, beq, cond, and_true, and_false}
+use mathlib.Core.Bool.{Bool, true, false, not, ◌&&◌, beq, cond, and-true, and-false}
 use mathlib.Core.Path.{◌≡◌, refl, sym, ap, ◌∙◌}
 use native.Mathlib.Nat.{zero-lt-suc, zero-mul, mul_comm, mul_assoc, mul_left_comm, mul-pos}
 use native.Mathlib.Omega.{arith}
@@ -55,10 +55,10 @@ module _ (s t : Bool) (A B C a b : ℕ) (C-pos : 0 < C) (p : A * 2 ^ 149 ≡ a *
       go Ordering.eq h =
           let e : A ≡ B = same_number A B C a b (2 ^ 149) C-pos P_pos p q h in
           let none : a - b ≡ 0 = omega arith in
-          rw (le-ltb A B (omega arith), le-ltb B A (omega arith), and_false s) (told_round false (A - B) C 0 1 C-pos (zero-lt-suc 0) (more ∙ ap (λ (x : ℕ). x * C) none))
+          rw (le-ltb A B (omega arith), le-ltb B A (omega arith), and-false s) (told_round false (A - B) C 0 1 C-pos (zero-lt-suc 0) (more ∙ ap (λ (x : ℕ). x * C) none))
       go Ordering.gt h =
           let l : B < A = order B A C b a (2 ^ 149) C-pos P_pos q p h in
-          rw (le-ltb A B (omega arith), lt-ltb B A l, and_true s) (told_round s (A - B) C (a - b) 1 C-pos (zero-lt-suc 0) more)
+          rw (le-ltb A B (omega arith), lt-ltb B A l, and-true s) (told_round s (A - B) C (a - b) 1 C-pos (zero-lt-suc 0) more)
 
   sum_is : told (Ieee.sum Ieee.binary32 s A t B C) ≡ cond (beq s t) (rounded s (a + b) 1) (differ (compare a b) s a t b)
   unfolding Ieee.sum
