@@ -4,11 +4,9 @@ use crate::file::Trials;
 use crate::generate_branches;
 use crate::generate_calls;
 use crate::generate_checks;
-use crate::generate_exports;
 use crate::generate_float_stops;
 use crate::generate_floats;
 use crate::generate_forward;
-use crate::generate_hex;
 use crate::generate_instructions;
 use crate::generate_jobs;
 use crate::generate_lines;
@@ -32,17 +30,13 @@ pub fn trials(seed: u64, count: usize) -> Vec<u8> {
     generate_words::edges(&mut random, &mut trials);
     generate_floats::edges(&mut random, &mut trials);
     generate_float_stops::edges(&mut random, &mut trials);
-    generate_hex::edges(&mut random, &mut trials);
-    generate_exports::edges(&mut random, &mut trials);
     while !trials.is_full() {
         match random.below(100) {
-            0..=19 => generate_lines::random(&mut random, &mut trials),
-            20..=39 => generate_jobs::random(&mut random, &mut trials),
-            40..=64 => generate_calls::random(&mut random, &mut trials),
-            65..=69 => generate_checks::random(&mut random, &mut trials),
-            70..=81 => generate_forward::random(&mut random, &mut trials),
-            82..=93 => generate_hex::random(&mut random, &mut trials),
-            _ => generate_exports::random(&mut random, &mut trials),
+            0..=24 => generate_lines::random(&mut random, &mut trials),
+            25..=49 => generate_jobs::random(&mut random, &mut trials),
+            50..=79 => generate_calls::random(&mut random, &mut trials),
+            80..=84 => generate_checks::random(&mut random, &mut trials),
+            _ => generate_forward::random(&mut random, &mut trials),
         }
     }
     trials.into_bytes()

@@ -12,7 +12,7 @@ const MOST_INPUT: usize = 32_768;
 pub const PROGRAM_CELLS: usize = 4_096;
 const RUNJOB_STEPS: usize = 400;
 
-/// A refusal's number and the offset it speaks of, or the line of an Intel HEX text.
+/// A refusal's number and the offset it speaks of.
 pub type Refused = (u32, usize);
 
 fn u16_at(bytes: &[u8], at: usize) -> u32 {
@@ -137,11 +137,6 @@ pub fn cell_records(cells: &[u32]) -> Vec<u8> {
         records.extend(record(1, &payload));
     }
     records
-}
-
-/// A job of cells alone: the host's words stay.
-pub fn cells_alone(cells: &[u32]) -> Vec<u8> {
-    [cell_records(cells), record(4, &[])].concat()
 }
 
 pub fn words_record(words: Words) -> Vec<u8> {

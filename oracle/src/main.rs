@@ -10,12 +10,9 @@ mod generate;
 mod generate_branches;
 mod generate_calls;
 mod generate_checks;
-mod generate_exports;
 mod generate_float_stops;
 mod generate_floats;
 mod generate_forward;
-mod generate_hex;
-mod generate_hex_flaws;
 mod generate_instructions;
 mod generate_jobs;
 mod generate_lines;
@@ -24,8 +21,6 @@ mod generate_profile_stops;
 mod generate_stops;
 mod generate_words;
 mod half;
-mod hex;
-mod image;
 mod job;
 mod line;
 mod machine;
@@ -33,21 +28,17 @@ mod profile;
 mod random;
 mod setup;
 mod table;
-mod table_hex;
 #[cfg(test)]
 mod tests;
 #[cfg(test)]
 mod tests_float;
-#[cfg(test)]
-mod tests_hex;
 mod trial;
 
 use std::io::{self, Read, Write};
 use std::process::ExitCode;
 
 const USAGE: &str =
-    "oracle generate SEED COUNT | floats SEED | answer | table | runjob | check-rule [L] | assemble \
-                     | import-hex | export-hex | image SEED | cells | job";
+    "oracle generate SEED COUNT | floats SEED | answer | table | runjob | check-rule [L] | assemble";
 
 fn main() -> ExitCode {
     let arguments: Vec<String> = std::env::args().skip(1).collect();
@@ -61,11 +52,6 @@ fn main() -> ExitCode {
         ["check-rule"] => check_rule(None),
         ["check-rule", length] => check_rule(Some(length)),
         ["assemble"] => assemble(),
-        ["import-hex"] => convert(image::import_hex),
-        ["export-hex"] => convert(image::export_hex),
-        ["image", seed] => random_image(seed),
-        ["cells"] => convert(image::cells),
-        ["job"] => input().and_then(|bytes| output(&image::job(&bytes)?)),
         _ => Err(USAGE.to_string()),
     };
     match done {
@@ -141,15 +127,5 @@ fn assemble() -> Result<(), String> {
     let cells: Result<Vec<u32>, String> = lines
         .map(|(number, line)| line::read(line).map_err(|_| format!("line {} is no cell's", number + 1)))
         .collect();
-    output(&job::cells_alone(&cells?))
-}
-
-/// Writes what is made of the input, or nothing if it is refused.
-fn convert(make: fn(&[u8]) -> Result<Vec<u8>, job::Refused>) -> Result<(), String> {
-    let made = make(&input()?).map_err(|(number, place)| format!("refused {number} at {place}"))?;
-    output(&made)
-}
-
-fn random_image(seed: &str) -> Result<(), String> {
-    output(&image::random(seed.parse().map_err(|_| USAGE)?))
+    output(&[job::cell_records(&cells?), job::record(4, &[])].concat())
 }

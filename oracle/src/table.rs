@@ -1,15 +1,13 @@
 //! How often each opcode, stop, finding, refusal and limit occurs in a file of trials, how many halves become floats, and
-//! what becomes of floats and of Intel HEX texts.
+//! what becomes of floats.
 
 use std::collections::{BTreeMap, BTreeSet};
 use std::ops::RangeInclusive;
 
 use crate::cell::opcode_of;
 use crate::execute::{branch_target, float_runs};
-use crate::job::Refused;
 use crate::machine::*;
 use crate::profile::Fault;
-use crate::table_hex::{of_export, of_import, EXPORTS, IMPORTS};
 
 /// The calls by their kind. `runjob` makes one call of run; its refusals are counted below.
 const CALLS: [&str; 5] = ["step", "run", "back", "profile", "runjob"];
@@ -21,15 +19,13 @@ const STOPS: [u32; 17] = [0, 1, 2, 3, 4, 5, 6, 7, 8, 9, 10, 11, 12, 13, 60, 61, 
 const FOUND: [&str; 7] = ["forward only", "length", "reserved", "float", "int", "back", "target"];
 
 /// Every refusal that trials can bring about, by the function that refuses.
-const REFUSALS: [(&str, &[u32]); 8] = [
+const REFUSALS: [(&str, &[u32]); 6] = [
     ("encode", &[21, 22]),
     ("print", &[31]),
     ("read", &[30]),
     ("load", &[10, 12, 41, 42, 43, 44, 45, 46, 47]),
     ("save", &[10, 12, 48]),
     ("runjob", &[10, 41, 42, 43, 44, 45, 46, 47, 50]),
-    ("import", &[12, 70, 71, 72, 73, 74, 75]),
-    ("export", &[12, 48]),
 ];
 
 /// What happens at the limits, most of which only large trials reach. The journals have words for more
@@ -246,21 +242,6 @@ impl Tally {
         }
     }
 
-    pub fn import(&mut self, text: &[u8], m: usize, done: Result<(), Refused>) {
-        if let Err((number, _)) = done {
-            self.refusal("import", number);
-        }
-        for name in of_import(text, m, done) {
-            self.limit(name);
-        }
-    }
-
-    pub fn export(&mut self, cells: &[u32], room: usize, done: Result<usize, u32>) {
-        for name in of_export(cells, room, done) {
-            self.limit(name);
-        }
-    }
-
     fn limit(&mut self, name: String) {
         *self.limits.entry(name).or_insert(0) += 1;
     }
@@ -312,8 +293,6 @@ impl Tally {
         self.refused(&mut text, &mut missing);
         self.limited("limit", &LIMITS, &mut text, &mut missing);
         self.limited("words", &WORDS, &mut text, &mut missing);
-        self.limited("import", &IMPORTS, &mut text, &mut missing);
-        self.limited("export", &EXPORTS, &mut text, &mut missing);
         (text, missing)
     }
 

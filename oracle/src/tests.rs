@@ -705,10 +705,10 @@ fn digests_differ() {
 #[test]
 fn generated_trials() {
     for seed in 0..3 {
-        let file = generate::trials(seed, 7_500);
+        let file = generate::trials(seed, 6_500);
         let mut tally = table::Tally::new();
         let trials = trial::split(&file).unwrap();
-        assert_eq!(trials.len(), 7_500);
+        assert_eq!(trials.len(), 6_500);
         for (kind, payload) in trials {
             trial::answer(kind, payload, &mut tally).unwrap();
         }

@@ -1,7 +1,6 @@
 //! Trials: how they are read, and the text that answers them. README.md has the format.
 
 use crate::cell::{self, Decoded, Operands};
-use crate::hex;
 use crate::job;
 use crate::line;
 use crate::machine::{Answer, Machine, Runner, Words, NO_WORDS, PC};
@@ -18,8 +17,6 @@ pub const RUNJOB: u8 = 7;
 pub const SAVE: u8 = 8;
 pub const DESCRIBED: u8 = 9;
 pub const CHECK: u8 = 10;
-pub const IMPORT: u8 = 11;
-pub const EXPORT: u8 = 12;
 
 pub const STEP: u8 = 0;
 pub const RUN: u8 = 1;
@@ -32,7 +29,6 @@ pub const MOST_CELLS: usize = 16_500;
 pub const MOST_JOURNAL: usize = 524_304;
 pub const MOST_SAVE_ROOM: usize = 70_000;
 pub const MOST_JOB: usize = 70_000;
-pub const MOST_HEX_ROOM: usize = 190_000;
 
 const ROOM_FILL: u8 = 0xAA;
 const CELLS_FILL: u32 = 2_863_311_530;
@@ -138,8 +134,6 @@ pub fn answer(kind: u8, payload: &[u8], tally: &mut Tally) -> Result<String, Str
         SAVE => save(&mut input, tally)?,
         DESCRIBED => described(&mut input, tally)?,
         CHECK => check(&mut input, tally)?,
-        IMPORT => import(&mut input, tally)?,
-        EXPORT => export(&mut input, tally)?,
         _ => return Err(format!("kind {kind} is unknown")),
     };
     input.end()?;
@@ -356,49 +350,4 @@ fn check(input: &mut Input, tally: &mut Tally) -> Result<String, String> {
         Err(Fault::Length) => "length\n".to_string(),
         Err(Fault::Cell(place, reason)) => format!("cell {place} {}\n", reason.word()),
     })
-}
-
-/// An import's two lines.
-fn import_text(done: Result<(), job::Refused>, cells: &[u32]) -> String {
-    let first = match done {
-        Ok(()) => "imported\n".to_string(),
-        Err(refused) => job::refused_text(refused),
-    };
-    format!("{first}cells {}\n", digest_of(cells))
-}
-
-fn import(input: &mut Input, tally: &mut Tally) -> Result<String, String> {
-    let mut cells = vec![CELLS_FILL; input.length(4, MOST_CELLS)?];
-    let text = std::mem::take(&mut input.bytes);
-    let done = hex::import(text, &mut cells);
-    tally.import(text, cells.len(), done);
-    Ok(import_text(done, &cells))
-}
-
-/// Cells of which a part is described: cell i holds there seed + step * i, modulo 2^32. The settings come on top.
-fn export(input: &mut Input, tally: &mut Tally) -> Result<String, String> {
-    let mut cells = vec![0; input.length(4, MOST_CELLS)?];
-    let mut room = vec![ROOM_FILL; input.length(4, MOST_HEX_ROOM)?];
-    let (seed, step, first, end) = (input.word()?, input.word()?, input.word()?, input.word()?);
-    for (i, cell) in (0..end).zip(&mut cells).skip(first as usize) {
-        *cell = seed.wrapping_add(step.wrapping_mul(i));
-    }
-    settings(input, 4, &mut cells)?;
-    Ok(export_and_import(&cells, &mut room, tally))
-}
-
-fn export_and_import(cells: &[u32], room: &mut [u8], tally: &mut Tally) -> String {
-    let exported = hex::export(cells, room);
-    tally.export(cells, room.len(), exported);
-    let mut text = match exported {
-        Ok(length) => format!("exported {length}\n"),
-        Err(number) => refused("export", number, tally),
-    };
-    text += &format!("room {}\n", digest(room.iter().map(|byte| *byte as u32)));
-    if let Ok(length) = exported {
-        let mut fresh = vec![FRESH_CELLS_FILL; cells.len()];
-        let done = hex::import(&room[..length], &mut fresh);
-        text += &import_text(done, &fresh);
-    }
-    text
 }
