@@ -22,10 +22,8 @@ fn next(x: u32, register: u32) -> u32 {
 // The sum x after the registers, in order.
 fn sum(x: u32, words: &[u32]) -> u32 {
     let mut total = x;
-    let mut i = 0;
-    while i < words.len() {
-        total = next(total, words[i]);
-        i += 1;
+    for word in words {
+        total = next(total, *word);
     }
     total
 }
@@ -58,13 +56,11 @@ pub(crate) fn go_round(
         back: 0,
         sum: 0,
     };
-    let mut left = times;
-    while 0 < left {
+    for _ in 0..times {
         let ran = forward::run(state, cells, journal, BUDGET);
         let returned = backward::back(ran.machine, cells, journal, number);
         told = add_up(told, ran, returned.count);
         state = returned.machine;
-        left -= 1;
     }
     told
 }

@@ -3,16 +3,17 @@
 
 #![tactic(auto)]
 
-ghost use Rattle.std.specs.Prelude.{◌≡◌, take};
-ghost use Rattle.io.specs.Counts.{IsPrefixLen};
+ghost use Rattle.std.specs.Prelude.{◌≡◌, ◌≤◌, length, take};
 ghost use Rattle.verdict.specs.Told.{text_of};
 
-use intake::Intake;
-use libc::{STDIN_FILENO, STDOUT_FILENO};
+use intake::{Intake, read_full};
+use std::env::{Env, FillError};
+use std::io;
+use std::io::Write;
 
 // Puts the whole text of what the check says of an input, and answers its length.
 fn tell(input: &[u8], argument: &[u8], text: &mut [u8; verdict::TEXT]) -> usize
-    ensures within { IsPrefixLen result text.new }
+    ensures within { result ≤ length text.new }
     ensures whole { take result text.new ≡ text_of input.now argument.now }
 {
     let mut cells = [0u32; Intake::CELLS];
@@ -21,23 +22,23 @@ fn tell(input: &[u8], argument: &[u8], text: &mut [u8; verdict::TEXT]) -> usize
 }
 
 // Takes the argument, and answers its length. A longer one than its room is no L, and neither are the bytes there that it begins with.
-fn take_argument(word: &mut [u8]) -> usize
-    ensures { IsPrefixLen result word.new }
+fn take_argument(rt: &impl Env, word: &mut [u8]) -> usize
+    ensures { result ≤ length word.new }
 {
-    let size = os::arg(1, word);
-    if os::errno() == libc::ENAMETOOLONG {
-        return word.len();
+    match rt.arg(1, word) {
+        Ok(size) => size,
+        Err(FillError::TooLong) => word.len(),
+        Err(FillError::NotPresent) => 0,
     }
-    size
 }
 
 // One byte more than a job may have, so that a longer input is seen to be too long.
-fn main() {
+fn main(rt: HostRuntime) -> io::Result<()> {
     let mut input = [0u8; Intake::INPUT + 1];
     let mut word = [0u8; 8];
     let mut text = [0u8; verdict::TEXT];
-    let read = io::read_full(STDIN_FILENO, &mut input);
-    let size = take_argument(&mut word);
+    let read = read_full(&mut rt.stdin(), &mut input)?;
+    let size = take_argument(&rt, &mut word);
     let end = tell(&input[..read], &word[..size], &mut text);
-    io::write_all(STDOUT_FILENO, &text[..end]);
+    rt.stdout().write_all(&text[..end])
 }

@@ -3,9 +3,12 @@
 #![tactic(auto)]
 
 use call::Ran;
+use intake::read_full;
 use job::Answer;
-use libc::{STDIN_FILENO, STDOUT_FILENO};
+use machine::Settings;
 use saver::Saved;
+use std::io;
+use std::io::Write;
 
 // Released with the saved job's length, held with the stop's number, or refused with the refusal's number.
 #[derive(Drop)]
@@ -15,22 +18,20 @@ enum Became {
     Refused(u64),
 }
 
-// Whether a run ended with no flag but that of its end.
-fn clean(ran: Ran) -> bool {
-    let stop = ran.stop;
-    let m = ran.machine;
-    let settings = m.settings;
-    (stop.number() == 1) & (settings.flags == 256)
+// Whether a run ended with no flag but that of its end, by its stop's number and the settings it left.
+fn clean(stop: u64, settings: Settings) -> bool {
+    (stop == 1) & (settings.flags == 256)
 }
 
 // A clean run is saved into the room. All that another one did is taken back: the cells hold the loaded job again.
 fn settle(ran: Ran, cells: &mut [u32], journal: &[u32], room: &mut [u8]) -> Became {
-    let stop = ran.stop;
-    if !clean(ran) {
-        backward::back(ran.machine, cells, journal, ran.count);
-        return Became::Held(stop.number());
+    let stop = ran.stop.number();
+    let m = ran.machine;
+    if !clean(stop, m.settings) {
+        backward::back(m, cells, journal, ran.count);
+        return Became::Held(stop);
     }
-    let saved = saver::save(ran.machine, cells, room);
+    let saved = saver::save(m, cells, room);
     match saved {
         Saved::Written(length) => Became::Released(length),
         Saved::Unsaved(why) => Became::Refused(why.number()),
@@ -54,24 +55,24 @@ fn scrub(job: &[u8], cells: &mut [u32], journal: &mut [u32], room: &mut [u8]) ->
 }
 
 // Writes a name and a number as a line.
-fn write_line(name: &[u8], number: u64) {
-    io::write_all(STDOUT_FILENO, name);
-    io::print_decimal(STDOUT_FILENO, number);
-    io::write_all(STDOUT_FILENO, b"\n");
+fn write_line<W: Write>(out: &mut W, name: &[u8], number: u64) -> io::Result<()> {
+    out.write_all(name)?;
+    writeln!(out, "{number}")
 }
 
 // What the host lends: 4,096 cells, a journal of 8 words for each of 400 steps, and room for any job that is saved from them. The input has
 // room for one byte more than a job may have, so that a longer one is seen to be too long.
-fn main() {
+fn main(rt: HostRuntime) -> io::Result<()> {
     let mut input = [0u8; 32769];
     let mut cells = [0u32; 4096];
     let mut journal = [0u32; 3200];
     let mut room = [0u8; 32768];
-    let read = io::read_full(STDIN_FILENO, &mut input);
+    let read = read_full(&mut rt.stdin(), &mut input)?;
     let became = scrub(&input[..read], &mut cells, &mut journal, &mut room);
+    let mut out = rt.stdout();
     match became {
-        Became::Released(length) => write_line(b"released ", length as u64),
-        Became::Held(stop) => write_line(b"held ", stop),
-        Became::Refused(number) => write_line(b"refused ", number),
+        Became::Released(length) => write_line(&mut out, b"released ", length as u64),
+        Became::Held(stop) => write_line(&mut out, b"held ", stop),
+        Became::Refused(number) => write_line(&mut out, b"refused ", number),
     }
 }

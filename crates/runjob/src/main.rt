@@ -2,16 +2,17 @@
 
 #![tactic(auto)]
 
-ghost use Rattle.std.specs.Prelude.{◌≡◌, take};
-ghost use Rattle.io.specs.Counts.{IsPrefixLen};
+ghost use Rattle.std.specs.Prelude.{◌≡◌, ◌≤◌, length, take};
 ghost use Rattle.outcome.specs.Told.{text_of};
 
-use libc::{STDIN_FILENO, STDOUT_FILENO};
+use intake::read_full;
 use outcome::Sizes;
+use std::io;
+use std::io::Write;
 
 // Puts the whole text of what became of an input, and answers its length.
 fn tell(input: &[u8], text: &mut [u8; Sizes::TEXT]) -> usize
-    ensures within { IsPrefixLen result text.new }
+    ensures within { result ≤ length text.new }
     ensures whole { take result text.new ≡ text_of input.now }
 {
     let mut cells = [0u32; Sizes::CELLS];
@@ -21,10 +22,10 @@ fn tell(input: &[u8], text: &mut [u8; Sizes::TEXT]) -> usize
 }
 
 // One byte more than a job may have, so that a longer input is seen to be too long.
-fn main() {
+fn main(rt: HostRuntime) -> io::Result<()> {
     let mut input = [0u8; Sizes::INPUT + 1];
     let mut text = [0u8; Sizes::TEXT];
-    let read = io::read_full(STDIN_FILENO, &mut input);
+    let read = read_full(&mut rt.stdin(), &mut input)?;
     let end = tell(&input[..read], &mut text);
-    io::write_all(STDOUT_FILENO, &text[..end]);
+    rt.stdout().write_all(&text[..end])
 }

@@ -10,10 +10,8 @@ fn mix(x: u64, word: u32) -> u64 {
 // The digest of words.
 pub(crate) fn digest(words: &[u32]) -> u64 {
     let mut x: u64 = 0;
-    let mut i = 0;
-    while i < words.len() {
-        x = mix(x, words[i]);
-        i += 1;
+    for word in words {
+        x = mix(x, *word);
     }
     x % PRIME
 }
@@ -21,10 +19,8 @@ pub(crate) fn digest(words: &[u32]) -> u64 {
 // The digest of bytes.
 pub(crate) fn digest_bytes(bytes: &[u8]) -> u64 {
     let mut x: u64 = 0;
-    let mut i = 0;
-    while i < bytes.len() {
-        x = mix(x, wide(bytes[i]));
-        i += 1;
+    for byte in bytes {
+        x = mix(x, wide(*byte));
     }
     x % PRIME
 }

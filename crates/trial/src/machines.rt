@@ -3,25 +3,27 @@ use crate::digests::digest;
 use crate::out::tell;
 use crate::payload::{byte_at, half_at, word_at};
 use machine::{Machine, Settings};
+use std::io;
+use std::io::Write;
 use std::num::wrapping_add_usize;
 
 // Writes the host's words of a machine.
-fn put_host(m: Machine) {
+fn put_host<W: Write>(out: &mut W, m: Machine) -> io::Result<()> {
     let host = m.host;
-    tell(b" words ", digest(&host));
+    tell(out, b" words ", digest(&host))
 }
 
 // Writes a machine and its cells.
-pub(crate) fn put_machine(m: Machine, cells: &[u32]) {
+pub(crate) fn put_machine<W: Write>(out: &mut W, m: Machine, cells: &[u32]) -> io::Result<()> {
     let regs = m.regs;
     let s = m.settings;
-    tell(b"flags ", s.flags as u64);
-    tell(b" mask ", s.mask as u64);
-    tell(b" mode ", s.mode as u64);
-    tell(b" depth ", m.depth as u64);
-    put_host(m);
-    tell(b" registers ", digest(&regs));
-    tell(b" cells ", digest(cells));
+    tell(out, b"flags ", s.flags as u64)?;
+    tell(out, b" mask ", s.mask as u64)?;
+    tell(out, b" mode ", s.mode as u64)?;
+    tell(out, b" depth ", m.depth as u64)?;
+    put_host(out, m)?;
+    tell(out, b" registers ", digest(&regs))?;
+    tell(out, b" cells ", digest(cells))
 }
 
 // Sets a word; one outside the list does nothing.
@@ -44,9 +46,8 @@ fn place_at(payload: &[u8], at: usize, width: usize) -> u32 {
 // Makes the settings that stand at a place of a payload, their count first: each has a place, of as many bytes as is said, and a value.
 // Answers where they end.
 pub(crate) fn set_words(words: &mut [u32], payload: &[u8], at: usize, width: usize) -> usize {
-    let mut left = half_at(payload, at);
     let mut from = wrapping_add_usize(at, 2);
-    while 0 < left {
+    for _ in 0..half_at(payload, at) {
         let value_at = wrapping_add_usize(from, width);
         set(
             words,
@@ -54,7 +55,6 @@ pub(crate) fn set_words(words: &mut [u32], payload: &[u8], at: usize, width: usi
             word_at(payload, value_at),
         );
         from = wrapping_add_usize(value_at, 4);
-        left -= 1;
     }
     from
 }
