@@ -11,7 +11,7 @@ use lib.ListN.{length}
 use borrow.Author.Tests.{leb-false, ltb-false, eqb-false, lt-ltb, lt-leb, le-ltb, ne_eqb}
 use Rattle.machine.specs.declared.Settings.{Settings}
 use Rattle.machine.specs.State.{State, most_cells, capacity_of, bad_cells, bad_settings, entries_in, flags_bound, InRange}
-use Rattle.machine.specs.Stops.{Said, plainly}
+use Rattle.machine.specs.Stops.{Said}
 use Rattle.machine.specs.declared.Kind.{Kind}
 use Rattle.call.specs.Calls.{Out, stop_at, check_of, said_by, barred, begins_of, called}
 use Rattle.call.specs.declared.Checked.{Checked}

@@ -2,7 +2,7 @@
 -- Assumes nothing.
 use Prim.Native.Nat.{ℕ, ◌^◌, ◌<◌}
 use mathlib.Core.Path.{◌≡◌, refl, sym, ◌∙◌}
-use mathlib.Core.Bool.{Bool, true, false, cond, ◌&&◌, ◌||◌}
+use mathlib.Core.Bool.{false, cond, ◌&&◌, ◌||◌}
 use mathlib.Core.Logic.{◌⊎◌, inl, inr}
 use native.Mathlib.Omega.{arith}
 use lib.Dec.{leb, eqb}
@@ -64,3 +64,9 @@ pub legal_tests : (c x n m l imm : ℕ) (f : Form) → c < 2 ^ 32 → x ≡ opco
     → (tag_of the_type f ≡ 0) ⊎ (tag_of the_type f ≡ 1) → judged_of c ≡ tests n m l imm c x
 legal_tests c x n m l imm f fits x_is n_is m_is l_is imm-is f-is t =
     by_tests c fits ∙ rw (← x_is, ← n_is, ← m_is, ← l_is, ← imm-is, ← f-is, unreserved f t)
+
+-- a form that is not reserved is one of the other two
+pub other_form : (f : Form) → (f ≡ form.Reserved → ⊥) → (tag_of the_type f ≡ 0) ⊎ (tag_of the_type f ≡ 1)
+other_form form.Registers h = inl refl
+other_form form.Immediate h = inr refl
+other_form form.Reserved h = absurd (h refl)

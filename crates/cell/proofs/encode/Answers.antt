@@ -4,20 +4,20 @@ use Rattle.cell.proofs.encode.Goals as goal
 
 pub returns-in-Registers-operands : goal.returns-in-Registers-operands
 unfolding encode_of
-returns-in-Registers-operands c = rw (← c.form_of-form.ensures, c.enum_told-1.given.1, c.operands-1.given.1)
+returns-in-Registers-operands c = rw (← c.form_of-form.ensures, c.in-Registers.is, c.in-Registers-operands.is)
 
 pub returns-in-Immediate-operands : goal.returns-in-Immediate-operands
 unfolding encode_of
-returns-in-Immediate-operands c = rw (← c.form_of-form.ensures, c.enum_told-1.given.1, c.enum_told-in-Immediate-operands-1.given.1)
+returns-in-Immediate-operands c = rw (← c.form_of-form.ensures, c.in-Registers.is, c.in-Immediate-operands.is)
 
 pub returns-in-Registers-operands-2 : goal.returns-in-Registers-operands-2
 unfolding encode_of
-returns-in-Registers-operands-2 c = rw (← c.form_of-form.ensures, c.enum_told-in-Immediate-1.given.1, c.enum_told-in-Registers-operands-2-1.given.1)
+returns-in-Registers-operands-2 c = rw (← c.form_of-form.ensures, c.in-Immediate.is, c.in-Registers-operands-2.is)
 
 pub returns-in-Immediate-operands-2 : goal.returns-in-Immediate-operands-2
 unfolding encode_of
-returns-in-Immediate-operands-2 c = rw (← c.form_of-form.ensures, c.enum_told-in-Immediate-1.given.1, c.operands-in-Immediate-1.given.1)
+returns-in-Immediate-operands-2 c = rw (← c.form_of-form.ensures, c.in-Immediate.is, c.in-Immediate-operands-2.is)
 
 pub returns-in-Reserved : goal.returns-in-Reserved
 unfolding encode_of
-returns-in-Reserved c = rw (← c.form_of-form.ensures, c.enum_told-in-Reserved-1.given.1)
+returns-in-Reserved c = rw (← c.form_of-form.ensures, c.in-Reserved.is)

@@ -1,21 +1,20 @@
 -- `text::put` meets its contract: after i turns the first i bytes of the piece are stored, and what finds no room changes nothing.
-use mathlib.Core.Path.{◌≡◌, refl, sym, ap, ◌∙◌}
+use mathlib.Core.Path.{sym, ap, ◌∙◌}
 use mathlib.Core.List.{List}
-use Prim.Native.Nat.{ℕ, ◌≤◌, ◌-◌, ◌+◌}
+use Prim.Native.Nat.{ℕ, ◌+◌}
 use native.Mathlib.Omega.{arith}
-use lib.ListN.{length, take, get_or, set, length-set}
-use lib.Seq.{sets, take_all}
+use lib.ListN.{get_or, set, length-set}
 use Rattle.text.proofs.Adds.{sets_more, sets_past, sets_cut}
 use Rattle.text.proofs.put.Goals as goal
 
 pub returns-then-text-at : goal.returns-then-text-at
 returns-then-text-at c =
- let a = c.args in
+    let a = c.args in
     record { end = omega arith; text = sym (sets_past a.piece.now a.text.now a.at c.if-text-at.true) }
 
 pub returns-then-text-at-2 : goal.returns-then-text-at-2
 returns-then-text-at-2 c =
- let a = c.args in
+    let a = c.args in
     let i = c.loop-i.i in
     record {
       end = omega arith;
@@ -24,7 +23,7 @@ returns-then-text-at-2 c =
 
 pub loop-i-preserved : goal.loop-i-preserved
 loop-i-preserved c =
- let a = c.args in
+    let a = c.args in
     let i = c.loop-i.i in (
       omega arith,
       omega arith,
