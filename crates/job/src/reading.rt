@@ -105,8 +105,8 @@ pub(crate) fn examine(job: &[u8], m: usize) -> Answer
 
 // Words go into the part that starts with them.
 fn put_words(part: &mut [u32], words: &[u8], count: usize)
-    requires count_in_bounds { 4 * count ≤ length words.now }
-    requires count_in_bounds_2 { count ≤ length part.old }
+    requires words_hold { 4 * count ≤ length words.now }
+    requires part_holds { count ≤ length part.old }
     ensures { part.new ≡ sets part.old 0 (words_of count words.now) }
 {
     let mut i = 0;
@@ -174,7 +174,7 @@ pub(crate) fn carry_out(
     host: &mut [u32],
     cells: &mut [u32],
 ) -> Settings
-    requires nothing_yet_value { refusal_from (length job.now) (length cells.old) job.now 0 nothing_yet ≡ none }
+    requires not_refused { refusal_from (length job.now) (length cells.old) job.now 0 nothing_yet ≡ none }
     requires host_len { length host.old ≡ 5 }
     ensures { content_with regs.new result host.new cells.new
         ≡ content_from (length job.now) job.now (content_with regs.old fresh_settings host.old cells.old) }

@@ -171,8 +171,8 @@ fn store_and_load(
     x: u32,
     y: u32,
 ) -> u32
-    requires n_bound { (n < 256) × (illegal_load y ≡ false) × (illegal_store x v ≡ false) }
-    requires x_in_bounds { (x < first_special → x < length cells.old) × (y < first_special → y < length cells.old) }
+    requires allowed { (n < 256) × (illegal_load y ≡ false) × (illegal_store x v ≡ false) }
+    requires within { (x < first_special → x < length cells.old) × (y < first_special → y < length cells.old) }
     ensures { (told : ℕ) → left regs.new cells.new part.new result told
         ≡ done_by told (transfer_of n v x y (before regs.old s host.now cells.old part.old))
         (before regs.old s host.now cells.old part.old) }

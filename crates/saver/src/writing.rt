@@ -10,8 +10,8 @@ use machine::{Machine, Settings};
 
 // The bytes of a number, stored from a place on as far as they find room. It answers where they end.
 fn put(room: &mut [u8], at: usize, width: usize, number: u32) -> usize
-    requires width_bound { at + width < 2 ^ 64 }
-    requires width_bound_2 { width ≤ 4 }
+    requires end_bound { at + width < 2 ^ 64 }
+    requires short { width ≤ 4 }
     ensures { Stored room.old at (bytes_of width number) room.new result }
 {
     let all = lent::bytes(number);

@@ -9,6 +9,6 @@ overflow_add-entry c = omega (arith, uses_most _ _ _ _ 1 c.load-loaded.ensures.k
 pub returns : goal.returns
 returns c = λ told.
     let a = c.args in
-    carried a.n a.v a.x a.y a.s told _ _ _ _ _ _ a.host.now a.regs.now a.cells.now a.part.now _ _ _ c.ranges.s.fits c.requires.n_bound.2
+    carried a.n a.v a.x a.y a.s told _ _ _ _ _ _ a.host.now a.regs.now a.cells.now a.part.now _ _ _ c.ranges.s.fits c.requires.allowed.2
     c.unpack-settings.ensures c.behind_pointer-got.ensures c.store-stored.ensures.kept c.store-stored.ensures.stored
     c.load-loaded.ensures.kept c.load-loaded.ensures.loaded c.enter.ensures c.resettled.ensures c.pack.ensures

@@ -12,7 +12,7 @@ pub returns : goal.returns
 returns c = let s = c in
     let a = s.args in
     let e : take a.width c.bytes-all.result ≡ bytes_of a.width a.number =
-    rw c.bytes-all.ensures (first_bytes a.width 4 a.number s.requires.width_bound_2)
+    rw c.bytes-all.ensures (first_bytes a.width 4 a.number s.requires.short)
     in
     record {
       end = rw length-bytes;

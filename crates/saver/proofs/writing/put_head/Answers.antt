@@ -7,5 +7,5 @@ use Rattle.saver.proofs.writing.put_head.Goals as goal
 pub returns : goal.returns
 returns c = stored_then _ _ c.put-next.ensures c.put.ensures
 
-pub put-requires-clause-width_bound : goal.put-requires-clause-width_bound
-put-requires-clause-width_bound c = omega (arith, c.put-next.ensures.end, length-bytes 4 c.args.size)
+pub put-requires-clause-end_bound : goal.put-requires-clause-end_bound
+put-requires-clause-end_bound c = omega (arith, c.put-next.ensures.end, length-bytes 4 c.args.size)

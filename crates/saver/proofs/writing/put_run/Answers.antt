@@ -18,5 +18,5 @@ put_words-requires c = omega (arith, c.requires, run_length c.args.base c.args.r
 pub returns : goal.returns
 returns c = rw (run_record_lem _ _ c.if-run-eq0.false) (stored_record 1 _ _ (run_payload_lem c.args.base c.args.run.now) c.put_head-head.ensures (stored_then _ _ c.put-next.ensures c.put_words.ensures))
 
-pub put-next-requires-clause-width_bound : goal.put-next-requires-clause-width_bound
-put-next-requires-clause-width_bound c = omega (arith, c.requires, run_length c.args.base c.args.run.now c.if-run-eq0.false, c.put_head-head.ensures.end, head_length (2 + 4 * length c.args.run.now) 1)
+pub put-next-requires-clause-end_bound : goal.put-next-requires-clause-end_bound
+put-next-requires-clause-end_bound c = omega (arith, c.requires, run_length c.args.base c.args.run.now c.if-run-eq0.false, c.put_head-head.ensures.end, head_length (2 + 4 * length c.args.run.now) 1)

@@ -11,11 +11,11 @@ returns-then-fresh c = rw (setup_none _ (sym c.fresh.ensures ∙ c.if-fresh.true
 pub returns : goal.returns
 returns c = rw (setup_record _ (sym c.fresh.ensures ∙ c.if-fresh.false)) (stored_record 3 5 _ (setup_payload_lem c.args.s) c.put_head-head.ensures (stored_then _ _ (stored_then _ _ c.put-mask.ensures c.put-mode.ensures) c.put.ensures))
 
-pub put-mask-requires-clause-width_bound : goal.put-mask-requires-clause-width_bound
-put-mask-requires-clause-width_bound c = omega (arith, c.put_head-head.ensures.end, head_length 5 3)
+pub put-mask-requires-clause-end_bound : goal.put-mask-requires-clause-end_bound
+put-mask-requires-clause-end_bound c = omega (arith, c.put_head-head.ensures.end, head_length 5 3)
 
-pub put-mode-requires-clause-width_bound : goal.put-mode-requires-clause-width_bound
-put-mode-requires-clause-width_bound c = omega (arith, c.put-mask.ensures.end, length-bytes 2 c.args.s.flags, c.put_head-head.ensures.end, head_length 5 3)
+pub put-mode-requires-clause-end_bound : goal.put-mode-requires-clause-end_bound
+put-mode-requires-clause-end_bound c = omega (arith, c.put-mask.ensures.end, length-bytes 2 c.args.s.flags, c.put_head-head.ensures.end, head_length 5 3)
 
-pub put-requires-clause-width_bound : goal.put-requires-clause-width_bound
-put-requires-clause-width_bound c = omega (arith, c.put-mode.ensures.end, length-bytes 2 c.args.s.mask, c.put-mask.ensures.end, length-bytes 2 c.args.s.flags, c.put_head-head.ensures.end, head_length 5 3)
+pub put-requires-clause-end_bound : goal.put-requires-clause-end_bound
+put-requires-clause-end_bound c = omega (arith, c.put-mode.ensures.end, length-bytes 2 c.args.s.mask, c.put-mask.ensures.end, length-bytes 2 c.args.s.flags, c.put_head-head.ensures.end, head_length 5 3)

@@ -13,8 +13,8 @@ put_head-head-requires c = omega (arith, c.requires.1, value_length c.args.regis
 pub returns : goal.returns
 returns c = rw (value_record_lem _ _ c.if-value-eq0.false) (stored_record 2 5 _ (value_payload_lem c.args.register c.args.value) c.put_head-head.ensures (stored_then _ _ c.put-next.ensures c.put.ensures))
 
-pub put-next-requires-clause-width_bound : goal.put-next-requires-clause-width_bound
-put-next-requires-clause-width_bound c = omega (arith, c.requires.1, value_length c.args.register c.args.value c.if-value-eq0.false, c.put_head-head.ensures.end, head_length 5 2)
+pub put-next-requires-clause-end_bound : goal.put-next-requires-clause-end_bound
+put-next-requires-clause-end_bound c = omega (arith, c.requires.1, value_length c.args.register c.args.value c.if-value-eq0.false, c.put_head-head.ensures.end, head_length 5 2)
 
-pub put-requires-clause-width_bound : goal.put-requires-clause-width_bound
-put-requires-clause-width_bound c = omega (arith, c.requires.1, value_length c.args.register c.args.value c.if-value-eq0.false, c.put_head-head.ensures.end, head_length 5 2, c.put-next.ensures.end, length-bytes 1 c.args.register)
+pub put-requires-clause-end_bound : goal.put-requires-clause-end_bound
+put-requires-clause-end_bound c = omega (arith, c.requires.1, value_length c.args.register c.args.value c.if-value-eq0.false, c.put_head-head.ensures.end, head_length 5 2, c.put-next.ensures.end, length-bytes 1 c.args.register)

@@ -11,5 +11,5 @@ loop-i-preserved c = (omega arith, left_turn (word_turn c.args.words.now c.loop-
 pub returns : goal.returns
 returns c = left_over (word_over c.args.words.now c.loop-i.i c.loop-i-test.false) c.loop-i.invariant.1
 
-pub put-next-requires-clause-width_bound : goal.put-next-requires-clause-width_bound
-put-next-requires-clause-width_bound c = omega (arith, left_fits (word_turn c.args.words.now c.loop-i.i c.loop-i-test.true) c.loop-i.invariant.1 c.requires, length-bytes 4 (get_or c.args.words.now c.loop-i.i 0))
+pub put-next-requires-clause-end_bound : goal.put-next-requires-clause-end_bound
+put-next-requires-clause-end_bound c = omega (arith, left_fits (word_turn c.args.words.now c.loop-i.i c.loop-i-test.true) c.loop-i.invariant.1 c.requires, length-bytes 4 (get_or c.args.words.now c.loop-i.i 0))
