@@ -144,7 +144,7 @@ fn apply(
     cells: &mut [u32],
 ) -> Settings
     requires sound { Sound (length cells.old) kind payload.now }
-    requires host_len { length host.old ≡ 5 }
+    requires five_words { length host.old ≡ 5 }
     ensures { content_with regs.new result host.new cells.new
         ≡ content_of kind payload.now (content_with regs.old s host.old cells.old) }
 {
@@ -175,7 +175,7 @@ pub(crate) fn carry_out(
     cells: &mut [u32],
 ) -> Settings
     requires not_refused { refusal_from (length job.now) (length cells.old) job.now 0 nothing_yet ≡ none }
-    requires host_len { length host.old ≡ 5 }
+    requires five_words { length host.old ≡ 5 }
     ensures { content_with regs.new result host.new cells.new
         ≡ content_from (length job.now) job.now (content_with regs.old fresh_settings host.old cells.old) }
 {

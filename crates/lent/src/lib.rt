@@ -41,8 +41,8 @@ pub fn clear(words: &mut [u32])
 
 // The number of that width at a place, where there are as many bytes.
 fn whole(bytes: &[u8], at: usize, width: usize) -> u32
-    requires width_in_bounds { at + width ≤ length bytes.now }
-    requires width_bound { width ≤ 4 }
+    requires bytes_there { at + width ≤ length bytes.now }
+    requires at_most_four { width ≤ 4 }
     ensures { result ≡ number_at at width bytes.now }
 {
     let mut v: u32 = 0;

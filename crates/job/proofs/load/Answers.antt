@@ -19,7 +19,7 @@ pub carry_out-settings-requires : goal.carry_out-settings-requires
 carry_out-settings-requires c = let job = c.args.job.now in
     let cells = c.args.cells.now in
     let n : refusal_from (length job) (length cells) job 0 nothing_yet ≡ none = none_refused job cells _ c.in-Done.is c.examine-answer.ensures in
-    record { not_refused = rw (c.clear.ensures, length-replicate) n; host_len = search rules }
+    record { not_refused = rw (c.clear.ensures, length-replicate) n; five_words = search rules }
 
 pub returns-in-Done : goal.returns-in-Done
 returns-in-Done c = let job = c.args.job.now in

@@ -1,12 +1,9 @@
 -- `lent::clear` meets its contract: each turn makes one word more 0.
 -- Assumes nothing.
 use mathlib.Core.List.{◌++◌}
-use lib.ListN.{drop, length, replicate, length-set}
-use mathlib.Core.Path.{◌≡◌, refl, ◌∙◌}
+use lib.ListN.{drop, length, replicate}
+use mathlib.Core.Path.{◌≡◌}
 use Prim.Native.Nat.{◌≤◌, ◌-◌}
-use borrow.Author.Fill.{fill_none, fill_more}
-use native.Mathlib.Omega.{arith}
-use Rattle.lent.proofs.Fill.{fill_over}
 use Rattle.lent.proofs.clear.Given as goal
 
 abbrev pub invariant-loop-i : goal.invariant-loop-i

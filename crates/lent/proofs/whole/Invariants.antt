@@ -1,9 +1,7 @@
 -- `lent::whole` meets its contract: each turn takes one byte more, from the last to the first.
 -- Assumes nothing.
-use native.Mathlib.Omega.{arith}
 use Prim.Native.Nat.{◌+◌, ◌-◌, ◌≤◌}
 use mathlib.Core.Path.{◌≡◌}
-use Rattle.lent.proofs.Numbers.{number_none, number_over, number_turn, below_4}
 use Rattle.lent.specs.Little.{number_at}
 use Rattle.lent.proofs.whole.Given as goal
 

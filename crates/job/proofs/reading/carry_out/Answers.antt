@@ -8,7 +8,7 @@ use Rattle.job.proofs.Walk.{begin, rest_length, there, ends_there, kind_there, o
 use Rattle.job.proofs.reading.carry_out.Goals as goal
 
 pub loop-left-init : goal.loop-left-init
-loop-left-init c = begin _ _ _ refl c.requires.host_len c.requires.not_refused
+loop-left-init c = begin _ _ _ refl c.requires.five_words c.requires.not_refused
 
 pub returns-then-ends : goal.returns-then-ends
 returns-then-ends c = over _ _ _ _ _ c.loop-left.invariant (ends_there _ _ _ _ (kind_there c.args.job.now c.loop-left.at c.row_by-row.result c.number.result c.row_by-row.ensures c.number.ensures) c.ends.ensures c.if-ends.true)
