@@ -47,10 +47,10 @@ stored c =
     elim c.if-uses-gt3.branch [
       | then-uses-gt3+else-not-restore_cell w ↦
           let put = w.if-not-restore_cell.false in (
-            store_damaged _ _ here w.if-uses-gt3.true c.if-uses-gt7.false ∙ ap not (sym w.restore_cell.ensures.within ∙ put),
-            w.cells-is ∙ w.restore_cell.ensures.cells ∙ rw put (sym (store_put _ _ w.if-uses-gt3.true c.if-uses-gt7.false)),
+            store_damaged _ _ here (omega arith) c.if-uses-gt7.false ∙ ap not (sym w.restore_cell.ensures.within ∙ put),
+            w.cells-is ∙ w.restore_cell.ensures.cells ∙ rw put (sym (store_put _ _ (omega arith) c.if-uses-gt7.false)),
           )
-      | else-uses-gt3 w ↦ (no_store_whole _ _ here w.if-uses-gt3.false, w.cells-is ∙ sym (no_store_kept _ _ w.if-uses-gt3.false))
+      | else-uses-gt3 w ↦ (no_store_whole _ _ here (omega arith), w.cells-is ∙ sym (no_store_kept _ _ (omega arith)))
     ]
 
 pub returns-then-uses-eq1-3-clause-whole : goal.returns-then-uses-eq1-3-clause-whole
