@@ -33,12 +33,12 @@ returns-else-uses-eq1-clause-cells c = (a_alone (goal.at.returns-else-uses-eq1-c
 
 pub returns-then-uses-gt7-clause-whole : goal.returns-then-uses-gt7-clause-whole
 returns-then-uses-gt7-clause-whole c =
-    sym (ap not (use_damaged _ _ (inside (goal.at.returns-then-uses-gt7-clause-whole c).Else-is_out_of_range) c.if-uses-gt7.true))
+    sym (ap not (use_damaged _ _ (inside (goal.at.returns-then-uses-gt7-clause-whole c).Else-is_out_of_range) (omega arith)))
 
 pub returns-then-not-restore_cell-clause-whole : goal.returns-then-not-restore_cell-clause-whole
 returns-then-not-restore_cell-clause-whole c =
     let here = inside (goal.at.returns-then-not-restore_cell-clause-whole c).Else-is_out_of_range in
-    sym (ap not (store_damaged _ _ here c.if-uses-gt3.true c.if-uses-gt7.false ∙ ap not (sym c.restore_cell.ensures.within ∙ c.if-not-restore_cell.true)))
+    sym (ap not (store_damaged _ _ here c.if-uses-gt3.true (omega arith) ∙ ap not (sym c.restore_cell.ensures.within ∙ c.if-not-restore_cell.true)))
 
 -- where the stored cell is put back, or there is none
 stored : (c : Joined-uses-gt3) → (damaged_of (length c.args.cells.now) c.args.e ≡ false) × (c.if-uses-gt3.cells ≡ cells_before c.args.e c.args.cells.now)
@@ -47,8 +47,8 @@ stored c =
     elim c.if-uses-gt3.branch [
       | then-uses-gt3+else-not-restore_cell w ↦
           let put = w.if-not-restore_cell.false in (
-            store_damaged _ _ here (omega arith) c.if-uses-gt7.false ∙ ap not (sym w.restore_cell.ensures.within ∙ put),
-            w.cells-is ∙ w.restore_cell.ensures.cells ∙ rw put (sym (store_put _ _ (omega arith) c.if-uses-gt7.false)),
+            store_damaged _ _ here (omega arith) (omega arith) ∙ ap not (sym w.restore_cell.ensures.within ∙ put),
+            w.cells-is ∙ w.restore_cell.ensures.cells ∙ rw put (sym (store_put _ _ (omega arith) (omega arith))),
           )
       | else-uses-gt3 w ↦ (no_store_whole _ _ here (omega arith), w.cells-is ∙ sym (no_store_kept _ _ (omega arith)))
     ]
