@@ -12,7 +12,7 @@ use machine::{Kind, Machine, Settings, Stop, good_cells, good_settings};
 use profile::{Rule, first_bad};
 
 // What a call leaves beside cells and journal.
-#[derive(Drop)]
+#[derive(Clone, Copy)]
 pub struct Ran {
     pub machine: Machine,
     pub stop: Stop,
@@ -20,7 +20,7 @@ pub struct Ran {
 }
 
 // Whether a call can begin: it can, or stop 12, 10 or 11, or 60 of a profile run.
-#[derive(Drop)]
+#[derive(Clone, Copy)]
 pub enum Checked {
     Fine,
     Bad(Stop),

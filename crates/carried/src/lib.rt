@@ -21,7 +21,7 @@ use machine::{Address, Settings};
 use word::{Flag, Written};
 
 // What is told of a step that does not simply go on: the flags that it raised, all below INT, or one of these.
-#[derive(Drop)]
+#[derive(Clone, Copy)]
 pub struct Told;
 
 impl Told {

@@ -11,7 +11,7 @@ mod forms;
 use forms::{IMMEDIATE, REGISTERS, mark};
 
 // How the 24 bits below an opcode are read: three registers, a register and an immediate, or not at all.
-#[derive(Drop)]
+#[derive(Clone, Copy)]
 pub enum Form {
     Registers,
     Immediate,
@@ -19,7 +19,7 @@ pub enum Form {
 }
 
 // A decoded cell. A reserved cell is answered whole.
-#[derive(Drop)]
+#[derive(Clone, Copy)]
 pub enum Instruction {
     Registers { opcode: u8, n: u8, m: u8, l: u8 },
     Immediate { opcode: u8, n: u8, imm: u16 },
@@ -27,14 +27,14 @@ pub enum Instruction {
 }
 
 // The operands of an instruction to encode, in either form.
-#[derive(Drop)]
+#[derive(Clone, Copy)]
 pub enum Operands {
     Registers { n: u8, m: u8, l: u8 },
     Immediate { n: u8, imm: u16 },
 }
 
 // What encoding answers: the cell; or 21, the opcode is reserved; or 22, the operands are not of its form.
-#[derive(Drop)]
+#[derive(Clone, Copy)]
 pub enum Encoded {
     Cell(u32),
     ReservedOpcode,

@@ -17,7 +17,7 @@ use result::written;
 use word::Written;
 
 // The operations, in the order of their opcodes 80 to 83, 89 and 90.
-#[derive(Drop)]
+#[derive(Clone, Copy)]
 pub enum FloatOp {
     Add,
     Sub,

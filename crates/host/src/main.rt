@@ -5,7 +5,6 @@
 use call::Ran;
 use intake::read_full;
 use job::Answer;
-use machine::Settings;
 use saver::Saved;
 use std::io;
 use std::io::Write;
@@ -18,20 +17,22 @@ enum Became {
     Refused(u64),
 }
 
-// Whether a run ended with no flag but that of its end, by its stop's number and the settings it left.
-fn clean(stop: u64, settings: Settings) -> bool {
-    (stop == 1) & (settings.flags == 256)
+// Whether a run ended with no flag but that of its end.
+fn clean(ran: Ran) -> bool {
+    let stop = ran.stop;
+    let m = ran.machine;
+    let settings = m.settings;
+    (stop.number() == 1) & (settings.flags == 256)
 }
 
 // A clean run is saved into the room. All that another one did is taken back: the cells hold the loaded job again.
 fn settle(ran: Ran, cells: &mut [u32], journal: &[u32], room: &mut [u8]) -> Became {
-    let stop = ran.stop.number();
-    let m = ran.machine;
-    if !clean(stop, m.settings) {
-        backward::back(m, cells, journal, ran.count);
-        return Became::Held(stop);
+    let stop = ran.stop;
+    if !clean(ran) {
+        backward::back(ran.machine, cells, journal, ran.count);
+        return Became::Held(stop.number());
     }
-    let saved = saver::save(m, cells, room);
+    let saved = saver::save(ran.machine, cells, room);
     match saved {
         Saved::Written(length) => Became::Released(length),
         Saved::Unsaved(why) => Became::Refused(why.number()),

@@ -13,7 +13,7 @@ use std::io::Read;
 use text::{put, put_number};
 
 // The cells that a job is loaded into, and the longest input.
-#[derive(Drop)]
+#[derive(Clone, Copy)]
 pub struct Intake;
 
 impl Intake {

@@ -15,14 +15,14 @@ use reading::{carry_out, examine};
 use refusal::Refusal;
 
 // What a load answers: done, or a refusal with its record's offset.
-#[derive(Drop)]
+#[derive(Clone, Copy)]
 pub enum Answer {
     Done,
     Refused { why: Refusal, offset: usize },
 }
 
 // What a load leaves beside the cells.
-#[derive(Drop)]
+#[derive(Clone, Copy)]
 pub struct Loaded {
     pub machine: Machine,
     pub answer: Answer,

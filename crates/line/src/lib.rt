@@ -13,7 +13,7 @@ use mnemonic::put_word;
 use text::{put, put_number};
 
 // What printing answers: the line's length, or refusal 31 for lack of room.
-#[derive(Drop)]
+#[derive(Clone, Copy)]
 pub enum Printed {
     Length(usize),
     NoRoom,

@@ -7,7 +7,7 @@ ghost use Rattle.machine.specs.State.{fresh_machine, bad_cells, bad_settings, en
 ghost use Rattle.machine.specs.Stops.{said_of};
 
 // The addresses from 0xFFFF0000 on that LDST knows. A PC there or above has ended.
-#[derive(Drop)]
+#[derive(Clone, Copy)]
 pub struct Address;
 
 impl Address {
@@ -77,7 +77,7 @@ pub enum Kind {
 }
 
 // Why a call stopped, in the order of the stops' numbers: 0 to 13, 60 to 62.
-#[derive(Drop)]
+#[derive(Clone, Copy)]
 pub enum Stop {
     Done,
     Ended,

@@ -20,7 +20,7 @@ use half::{Extension, extend};
 use journal::{Entry, enter};
 
 // What 3 to 7 put into register n: imm as its lower or its upper half, imm alone, or imm extended.
-#[derive(Drop)]
+#[derive(Clone, Copy)]
 pub enum Loaded {
     Lower,
     Upper,

@@ -18,7 +18,7 @@ use machine::{Machine, Stop};
 
 // What `runjob` lends and grants to a job: the cells, the journal's entries and its words, the budget; the longest input, and the
 // longest text.
-#[derive(Drop)]
+#[derive(Clone, Copy)]
 pub struct Sizes;
 
 impl Sizes {
@@ -36,14 +36,14 @@ impl Sizes {
 }
 
 // How a job ended: refused, with the number and the offset, or run, with the stop and the count of steps.
-#[derive(Drop)]
+#[derive(Clone, Copy)]
 pub enum End {
     Refused { number: u64, offset: u64 },
     Ran { stop: Stop, count: u64 },
 }
 
 // What became of a job: its end, and the machine. That of a refused job is fresh.
-#[derive(Drop)]
+#[derive(Clone, Copy)]
 pub struct Outcome {
     pub end: End,
     pub machine: Machine,

@@ -10,7 +10,7 @@ use machine::Settings;
 const MODE_UNIT: u32 = Settings::FLAGS_BOUND * Settings::FLAGS_BOUND;
 
 // A word of settings.
-#[derive(Drop)]
+#[derive(Clone, Copy)]
 pub struct Packed;
 
 impl Packed {

@@ -8,7 +8,7 @@ ghost use Rattle.profile.specs.Profile.{into, ahead, judged_of, rule_of};
 use cell::{Form, form_of, imm_of, l_of, m_of, n_of, opcode_of};
 
 // Why a cell is not allowed: its opcode is reserved, or one of 80 to 106; it is an INT; it is a BZ that goes back; R255 is its target.
-#[derive(Drop)]
+#[derive(Clone, Copy)]
 pub enum Flaw {
     Reserved,
     Float,
@@ -18,7 +18,7 @@ pub enum Flaw {
 }
 
 // What a profile says of a cell.
-#[derive(Drop)]
+#[derive(Clone, Copy)]
 pub enum Judged {
     Allowed,
     Flawed(Flaw),
@@ -26,7 +26,7 @@ pub enum Judged {
 
 // What a profile says of the cells from 0 on that are a rule's code: all are allowed; their number is 0 or there are fewer; or the first
 // that is not allowed, and why.
-#[derive(Drop)]
+#[derive(Clone, Copy)]
 pub enum Rule {
     ForwardOnly,
     BadLength,

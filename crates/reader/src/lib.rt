@@ -13,7 +13,7 @@ use cell::{Encoded, Form, Operands};
 use mnemonic::put_word;
 
 // What reading answers: the cell, or refusal 30.
-#[derive(Drop)]
+#[derive(Clone, Copy)]
 pub enum ReadLine {
     Cell(u32),
     NoLine,

@@ -13,7 +13,7 @@ use refusal::Refusal;
 use writing::put_job;
 
 // What a save answers: the length written, or a refusal.
-#[derive(Drop)]
+#[derive(Clone, Copy)]
 pub enum Saved {
     Written(usize),
     Unsaved(Refusal),

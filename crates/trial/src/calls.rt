@@ -10,17 +10,18 @@ use std::io;
 use std::io::Write;
 use std::num::wrapping_add_usize;
 
-// Writes a stop's number, the values of an INT, and the place of a rule's bad cell; what a stop has none of is written as 0.
+// Writes a stop's number, the values of an INT, and the place of a rule's bad cell.
 fn put_stop<W: Write>(out: &mut W, stop: Stop) -> io::Result<()> {
-    let (value, imm, place) = match &stop {
-        Stop::Int { value, imm } => (*value as u64, *imm as u64, 0),
-        Stop::Barred { place } => (0, 0, *place as u64),
-        _ => (0, 0, 0),
-    };
     tell(out, b"stop ", stop.number())?;
-    tell(out, b" value ", value)?;
-    tell(out, b" imm ", imm)?;
-    tell(out, b" place ", place)
+    match stop {
+        Stop::Int { value, imm } => {
+            tell(out, b" value ", value as u64)?;
+            tell(out, b" imm ", imm as u64)?;
+            say(out, b" place 0")
+        }
+        Stop::Barred { place } => tell(out, b" value 0 imm 0 place ", place as u64),
+        _ => say(out, b" value 0 imm 0 place 0"),
+    }
 }
 
 // Writes the line of a call.

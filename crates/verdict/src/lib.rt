@@ -22,7 +22,7 @@ pub const TEXT: usize = 128;
 
 // What becomes of a job: it does not load; with no argument, its first record does not begin at cell 0; L is not 1 to the most; the
 // rule only goes forward, so it does at most L steps; or the first cell that is not allowed, where it stands, and why.
-#[derive(Drop)]
+#[derive(Clone, Copy)]
 pub enum Verdict {
     Refused { number: u64, offset: u64 },
     NoStart,

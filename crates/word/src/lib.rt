@@ -16,7 +16,7 @@ use compare::{either_zero, equal, greater, signed_greater};
 use shift::{left, right, signed_right};
 
 // The machine's flags, a bit each.
-#[derive(Drop)]
+#[derive(Clone, Copy)]
 pub struct Flag;
 
 impl Flag {
@@ -40,7 +40,7 @@ impl Flag {
 }
 
 // The operations, in the order of their opcodes 16 to 34.
-#[derive(Drop)]
+#[derive(Clone, Copy)]
 pub enum Op {
     Add,
     Adc,
@@ -64,7 +64,7 @@ pub enum Op {
 }
 
 // What an operation writes: its value, the flags that it governs, and those of them that become 1.
-#[derive(Drop)]
+#[derive(Clone, Copy)]
 pub struct Written {
     pub value: u32,
     pub governed: u32,
