@@ -76,6 +76,9 @@ module _ {number : ℕ} {m : Machine} {cells₀ journal : List ℕ} {k at : ℕ}
           let d : damaged_of (length cells) e ≡ true = turned _ _ r intact h in
           rw (regs-put, cells-put, not-true r h) (rw d at one_left)
 
+      pub stays : not r ≡ true → k ≡ 0 → regs' ≡ m.regs
+      stays h z = rw (regs-put, not-true r h) (u.first z)
+
       pub again : not r ≡ false → Returning number m cells₀ journal (k + 1) (at - 8) regs' cells'
       unfolding cells_before
       again h =
@@ -87,7 +90,3 @@ module _ {number : ℕ} {m : Machine} {cells₀ journal : List ℕ} {k at : ℕ}
             same = simp length-write_if u.same;
             rest = rw d at one_left;
           })
-
--- a turn less to do is a step more that is done
-pub one_more : (total left : ℕ) → 0 < left → left ≤ total → total - (left - 1) ≡ total - left + 1
-one_more total left some few = omega arith

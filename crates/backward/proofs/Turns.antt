@@ -18,7 +18,7 @@ use Rattle.journal.specs.Journal.{last_of, damaged_of, restored, regs_before, ce
 use Rattle.journal.proofs.Room.{ends_within}
 use Rattle.journal.proofs.Back.{pc_at_last, first_whole}
 use Rattle.call.specs.Calls.{stop_at, back_from}
-use Rattle.backward.specs.Reached.{back_to, reached}
+use Rattle.backward.specs.Reached.{machine_with, back_to, reached}
 
 -- the eight words below a depth are its last entry
 pub entry_read : (journal : List ℕ) (depth at n : ℕ) → 0 < depth → depth ≤ capacity_of journal → at ≡ start_of (depth - 1) → n ≡ 8
@@ -41,6 +41,12 @@ module _ (m : Machine) (regs cells journal : List ℕ) where
   unfolding reached
   depth_reached zero = rw sub-zero
   depth_reached (suc k) = refl
+
+  -- the registers of a machine that were lent are those that going back left
+  pub lent : (k : ℕ) → (k ≡ 0 → regs ≡ m.regs) → reached (machine_with regs m.settings m.depth m.host) k regs cells journal ≡ reached m k regs cells journal
+  unfolding reached
+  lent zero first = rw (first refl)
+  lent (suc k) first = refl
 
   -- PC and settings that were before a step back do not outlast it
   pub turn : (k n : ℕ) → k < m.depth → (k ≡ 0 → regs ≡ m.regs) → let e = last_of journal (m.depth - k) in

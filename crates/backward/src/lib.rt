@@ -10,7 +10,7 @@ ghost use Rattle.call.specs.Calls.{stop_at, back_from, back_of};
 ghost use Rattle.call.specs.Answers.{out_of};
 ghost use Rattle.backward.specs.Reached.{machine_with, reached};
 
-use call::{Checked, Ran, check, lesser};
+use call::{Ran, check, lesser};
 use journal::{Entry, entry_in, take_back};
 use machine::{Machine, Stop, capacity};
 use packed::unpack;
@@ -42,24 +42,22 @@ fn back_over(
 ) -> Undone
     requires { depth ≤ capacity_of journal.now }
     ensures few { result.count ≤ depth }
+    ensures none { result.count ≡ 0 → regs.new ≡ regs.old }
     ensures left { (s : Settings) (host : List ℕ)
         → stop_at (said_of result.stop) result.count (reached (machine_with regs.old s depth host) result.count regs.new cells.new journal.now)
         ≡ back_from number 0 (state_of (machine_with regs.old s depth host) cells.old journal.now) }
 {
     let total = lesser(number, depth);
-    let mut left = total;
     let mut at = Entry::WORDS * (depth as usize);
-    while 0 < left {
+    for count in 0..total {
         let from = at - Entry::WORDS;
-        let entry = entry_in(&journal[from..at]);
-        if !take_back(regs, cells, entry) {
+        if take_back(regs, cells, entry_in(&journal[from..at])).is_err() {
             return Undone {
-                count: total - left,
+                count,
                 stop: Stop::Damaged,
             };
         }
         at = from;
-        left = left - 1;
     }
     Undone {
         count: total,
@@ -68,9 +66,9 @@ fn back_over(
 }
 
 // The machine after so many steps back: PC and settings are those of the last entry taken back.
-fn machine_after(regs: &[u32; 256], m: Machine, journal: &[u32], undone: u32) -> Machine
+fn machine_after(m: Machine, journal: &[u32], undone: u32) -> Machine
     requires { (undone ≤ m.depth) × (m.depth ≤ capacity_of journal.now) }
-    ensures { (cells : List ℕ) → state_of result cells journal.now ≡ reached m undone regs.now cells journal.now }
+    ensures { (cells : List ℕ) → state_of result cells journal.now ≡ reached m undone m.regs cells journal.now }
 {
     if undone == 0 {
         return m;
@@ -78,14 +76,13 @@ fn machine_after(regs: &[u32; 256], m: Machine, journal: &[u32], undone: u32) ->
     let depth = m.depth - undone;
     let at = Entry::WORDS * (depth as usize);
     let e = entry_in(&journal[at..at + Entry::WORDS]);
-    let mut before = *regs;
-    before[255] = e.pc;
-    let host = m.host;
+    let mut regs = m.regs;
+    regs[255] = e.pc;
     Machine {
-        regs: before,
+        regs,
         settings: unpack(e.settings),
         depth,
-        host,
+        ..m
     }
 }
 
@@ -94,13 +91,12 @@ fn back_on(m: Machine, cells: &mut [u32], journal: &[u32], number: u64) -> Ran
     requires { m.depth ≤ capacity_of journal.now }
     ensures { out_of result cells.new journal.now ≡ back_from number 0 (state_of m cells.old journal.now) }
 {
-    let mut regs = m.regs;
-    let undone = back_over(&mut regs, cells, journal, m.depth, number);
-    let machine = machine_after(&regs, m, journal, undone.count);
-    let stop = undone.stop;
+    let mut m = m;
+    let depth = m.depth;
+    let undone = back_over(&mut m.regs, cells, journal, depth, number);
     Ran {
-        machine,
-        stop,
+        machine: machine_after(m, journal, undone.count),
+        stop: undone.stop,
         count: undone.count as u64,
     }
 }
@@ -109,10 +105,9 @@ fn back_on(m: Machine, cells: &mut [u32], journal: &[u32], number: u64) -> Ran
 pub fn back(m: Machine, cells: &mut [u32], journal: &[u32], number: u64) -> Ran
     ensures { out_of result cells.new journal.now ≡ back_of number (state_of m cells.old journal.now) }
 {
-    let checked = check(cells.len(), m.settings, capacity(journal.len()), m.depth);
-    match checked {
-        Checked::Fine => back_on(m, cells, journal, number),
-        Checked::Bad(stop) => Ran {
+    match check(cells.len(), m.settings, capacity(journal.len()), m.depth) {
+        Ok(()) => back_on(m, cells, journal, number),
+        Err(stop) => Ran {
             machine: m,
             stop,
             count: 0,

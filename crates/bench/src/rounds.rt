@@ -14,30 +14,18 @@ pub(crate) struct Tally {
     pub sum: u32,
 }
 
-// The sum after one register more: X*31 + register, modulo 2^32.
-fn next(x: u32, register: u32) -> u32 {
-    ((x as u64 * 31 + register as u64) % 4294967296) as u32
-}
-
-// The sum x after the registers, in order.
-fn sum(x: u32, words: &[u32]) -> u32 {
-    let mut total = x;
-    for word in words {
-        total = next(total, *word);
-    }
-    total
+// The sum x after the registers, in order: with each it becomes x*31 + register, modulo 2^32.
+fn sum(x: u32, regs: &[u32; 256]) -> u32 {
+    regs.iter().fold(x, |x, register| x.wrapping_mul(31).wrapping_add(*register))
 }
 
 // The tally after a round whose run forward and number of steps back are given.
-fn add_up(told: Tally, ran: Ran, back: u64) -> Tally {
-    let m = ran.machine;
-    let regs = m.regs;
-    let stop = ran.stop;
+fn add_up(told: Tally, ran: &Ran, back: u64) -> Tally {
     Tally {
-        stop: stop.number(),
-        forward: std::num::wrapping_add_u64(told.forward, ran.count),
-        back: std::num::wrapping_add_u64(told.back, back),
-        sum: sum(told.sum, &regs),
+        stop: ran.stop.number(),
+        forward: told.forward.wrapping_add(ran.count),
+        back: told.back.wrapping_add(back),
+        sum: sum(told.sum, &ran.machine.regs),
     }
 }
 
@@ -59,7 +47,7 @@ pub(crate) fn go_round(
     for _ in 0..times {
         let ran = forward::run(state, cells, journal, BUDGET);
         let returned = backward::back(ran.machine, cells, journal, number);
-        told = add_up(told, ran, returned.count);
+        told = add_up(told, &ran, returned.count);
         state = returned.machine;
     }
     told

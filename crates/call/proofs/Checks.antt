@@ -14,9 +14,10 @@ use Rattle.machine.specs.State.{State, most_cells, capacity_of, bad_cells, bad_s
 use Rattle.machine.specs.Stops.{Said}
 use Rattle.machine.specs.declared.Kind.{Kind}
 use Rattle.call.specs.Calls.{Out, stop_at, check_of, said_by, barred, begins_of, called}
-use Rattle.call.specs.declared.Checked.{Checked}
-use Rattle.profile.specs.declared.Rule.{Rule}
-use Rattle.profile.specs.declared.Rule.TheVariants.{ForwardOnly, BadLength, BadCell}
+use Rattle.std.specs.Prelude.{Result, Ok, Err, ⊤}
+use Rattle.machine.specs.declared.Stop.{Stop}
+use Rattle.profile.specs.declared.BadRule.{BadRule}
+use Rattle.profile.specs.declared.BadRule.TheVariants.{Length, Cell}
 use Rattle.profile.specs.Answers.{barred_by}
 use Rattle.call.specs.Answers.{checked_of}
 use Rattle.machine.proofs.Tests.{or_left, or_right}
@@ -96,10 +97,10 @@ checked m s j depth h =
     }
 
 -- a run that begins has passed the check of every call, and its rule the profile's
-pub rule_passed : (r : Rule) → none ≡ barred_by r → r ≡ ForwardOnly
-rule_passed ForwardOnly h = refl
-rule_passed BadLength h = let z : ◌≡◌ {A = ℕ} 0 1 = cc in absurd (omega arith)
-rule_passed (BadCell place flaw) h = let z : ◌≡◌ {A = ℕ} 0 1 = cc in absurd (omega arith)
+pub rule_passed : (r : Result ⊤ BadRule) → none ≡ barred_by r → r ≡ Ok tt
+rule_passed (Ok tt) h = refl
+rule_passed (Err Length) h = let z : ◌≡◌ {A = ℕ} 0 1 = cc in absurd (omega arith)
+rule_passed (Err (Cell place flaw)) h = let z : ◌≡◌ {A = ℕ} 0 1 = cc in absurd (omega arith)
 
 pub run_checked : (kind : Kind) (cells : List ℕ) (s : Settings) (j depth : ℕ) → none ≡ begins_of kind cells s j depth
     → Passed (length cells) s j depth × (none ≡ barred kind cells)
@@ -108,13 +109,13 @@ run_checked kind cells s j depth h =
     (checked (length cells) s j depth b.0, b.1)
 
 -- the answer's case is known, and J with it
-pub as_told : (r v : Checked) (m : ℕ) (s : Settings) (j depth : ℕ) (journal : List ℕ) → j ≡ entries_in (length journal) → r ≡ v → checked_of r ≡ said_by (check_of m s j depth)
+pub as_told : (r v : Result ⊤ Stop) (m : ℕ) (s : Settings) (j depth : ℕ) (journal : List ℕ) → j ≡ entries_in (length journal) → r ≡ v → checked_of r ≡ said_by (check_of m s j depth)
     → checked_of v ≡ said_by (check_of m s (capacity_of journal) depth)
 unfolding capacity_of
 as_told r v m s j depth journal e p h = rw (← e, ← p) h
 
 -- the same of a run
-pub run_told : (kind : Kind) (r v : Checked) (cells : List ℕ) (s : Settings) (j depth : ℕ) (journal : List ℕ) → j ≡ entries_in (length journal) → r ≡ v
+pub run_told : (kind : Kind) (r v : Result ⊤ Stop) (cells : List ℕ) (s : Settings) (j depth : ℕ) (journal : List ℕ) → j ≡ entries_in (length journal) → r ≡ v
     → checked_of r ≡ begins_of kind cells s j depth → checked_of v ≡ begins_of kind cells s (capacity_of journal) depth
 unfolding capacity_of
 run_told kind r v cells s j depth journal e p h = rw (← e, ← p) h

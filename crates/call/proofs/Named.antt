@@ -7,8 +7,8 @@ use mathlib.Core.Option.{Option, none, some}
 use mathlib.Core.List.{List}
 use Rattle.call.specs.declared.Ran.{Ran}
 use Rattle.call.specs.Calls.{Out}
-use Rattle.call.specs.declared.Checked.{Checked}
-use Rattle.call.specs.declared.Checked.TheVariants.{Fine, Bad}
+use Rattle.std.specs.Prelude.{Result, Ok, Err, ⊤}
+use Rattle.machine.specs.declared.Stop.{Stop}
 use Rattle.call.specs.Answers.{out_of, checked_of}
 use Rattle.machine.specs.State.{machine_of}
 use Rattle.machine.specs.Stops.{Said}
@@ -38,13 +38,13 @@ once o r t cells cells' journal journal' p q =
     (ap (λ (x : Left). x.answer) e, ap (λ (x : Left). x.cells) e, ap (λ (x : Left). x.journal) e)
 
 -- the check's answer, from what it says
-abbrev answered : Option Said → Checked
-answered none = Fine
-answered (some x) = Bad (heard x)
+abbrev answered : Option Said → Result ⊤ Stop
+answered none = Ok tt
+answered (some x) = Err (heard x)
 
-answered_checked : (r : Checked) → answered (checked_of r) ≡ r
-answered_checked Fine = refl
-answered_checked (Bad x) = rw (heard_said x)
+answered_checked : (r : Result ⊤ Stop) → answered (checked_of r) ≡ r
+answered_checked (Ok tt) = refl
+answered_checked (Err x) = rw (heard_said x)
 
-pub checked_once : (r t : Checked) → checked_of r ≡ checked_of t → r ≡ t
+pub checked_once : (r t : Result ⊤ Stop) → checked_of r ≡ checked_of t → r ≡ t
 checked_once r t e = sym (answered_checked r) ∙ ap answered e ∙ answered_checked t

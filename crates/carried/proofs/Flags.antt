@@ -1,7 +1,7 @@
 -- What is done to a word of settings is done to the flags that it stands for.
 -- Assumes nothing.
-use Rattle.std.proofs.Common.{◌≡◌, ℕ, ◌-◌, ◌^◌, ◌<◌, sym}
-use lib.Bits.{bit_and, bit_or, or_zero_r}
+use Rattle.std.proofs.Common.{◌≡◌, ℕ, ◌^◌, ◌<◌}
+use lib.Bits.{bit_or}
 use Rattle.machine.specs.State.{flags_bound}
 use Rattle.packed.specs.Packed.{packed_of, unpacked_of}
 use Rattle.packed.proofs.Bits as bits
@@ -14,8 +14,3 @@ replaces s g r h low up = bits.replaces s g r h low up
 
 pub raises : (s r : ℕ) → s < 2 ^ 32 → r < flags_bound → bit_or s r ≡ packed_of (with_flags (bit_or (unpacked_of s).flags r) (unpacked_of s))
 raises s r h up = bits.raises s r h up
-
--- where no flag is raised, the governed ones go
-pub clears : (s g r : ℕ) → r ≡ 0 → bit_and s (2 ^ 32 - 1 - g) ≡ flags_of s g r
-unfolding flags_of
-clears s g r e = rw e (sym (or_zero_r (bit_and s (2 ^ 32 - 1 - g))))

@@ -1,4 +1,5 @@
 pub mod Tests
 pub mod Opcodes
+pub mod Listed
 pub mod Fields
 pub mod RoundTrip

@@ -2,6 +2,7 @@
 -- says tells its answers apart.
 use mathlib.Core.Path.{◌≡◌, refl, sym, ap, ◌∙◌}
 use mathlib.Core.Bool.{Bool, true, false, cond}
+use Rattle.std.specs.Prelude.{Result, Ok, Err}
 use Prim.Native.Nat.{ℕ, ◌+◌, ◌*◌, ◌^◌, ◌<◌}
 use native.Mathlib.Omega.{arith}
 use lib.Dec.{eqb}
@@ -9,8 +10,8 @@ use Rattle.cell.specs.declared.Form.{Form}
 use Rattle.cell.specs.declared.Form.TheVariants as form
 use Rattle.cell.specs.declared.Instruction.TheVariants as instruction
 use Rattle.cell.specs.declared.Operands.TheVariants as operands
-use Rattle.cell.specs.declared.Encoded.{Encoded}
-use Rattle.cell.specs.declared.Encoded.TheVariants.{Cell, ReservedOpcode, OtherForm}
+use Rattle.cell.specs.declared.EncodeError.{EncodeError}
+use Rattle.cell.specs.declared.EncodeError.TheVariants.{ReservedOpcode, OtherForm}
 use Rattle.cell.specs.Cell.{legal, immediate, form_of, opcode_of, n_of, m_of, l_of, imm_of, read_in, decode_of, Reply, write_as, encode_of}
 use Rattle.cell.specs.Answers.{encoded_reply}
 use Rattle.cell.proofs.Tests.{never}
@@ -20,15 +21,15 @@ abbrev pub made : ℕ → Reply
 made c = record { number = 0; cell = c }
 
 -- the answer that was said
-abbrev heard : Reply → Encoded
-heard s = cond (eqb s.number 0) (Cell s.cell) (cond (eqb s.number 21) ReservedOpcode OtherForm)
+abbrev heard : Reply → Result ℕ EncodeError
+heard s = cond (eqb s.number 0) (Ok s.cell) (Err (cond (eqb s.number 21) ReservedOpcode OtherForm))
 
-heard_said : (a : Encoded) → heard (encoded_reply a) ≡ a
-heard_said (Cell c) = refl
-heard_said ReservedOpcode = refl
-heard_said OtherForm = refl
+heard_said : (a : Result ℕ EncodeError) → heard (encoded_reply a) ≡ a
+heard_said (Ok c) = refl
+heard_said (Err ReservedOpcode) = refl
+heard_said (Err OtherForm) = refl
 
-pub said_once : (a b : Encoded) → encoded_reply a ≡ encoded_reply b → a ≡ b
+pub said_once : (a b : Result ℕ EncodeError) → encoded_reply a ≡ encoded_reply b → a ≡ b
 said_once a b e = sym (heard_said a) ∙ ap heard e ∙ heard_said b
 
 -- encoding what was decoded

@@ -1,3 +1,2 @@
 pub mod Cell
 pub mod Answers
-pub mod Inner

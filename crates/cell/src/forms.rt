@@ -1,286 +1,271 @@
 // The opcode list, a page to lay beside the specification: under its four headings the form of every opcode from 0 to 255, and the mnemonic of
 // each that is legal. Opcode 2, of which the specification says nothing, is reserved.
-ghost use Rattle.std.specs.Prelude.{◌≡◌};
-ghost use Rattle.cell.specs.Cell.{form_of};
-ghost use Rattle.cell.specs.Inner.{mark_of};
+use crate::Form;
+use crate::Form::{Immediate, Registers, Reserved};
 
-// The mark of a form: the bits below the opcode are not read, are three registers, or are a register and an immediate.
-const RESERVED: u8 = 0;
-
-pub(crate) const REGISTERS: u8 = 1;
-
-pub(crate) const IMMEDIATE: u8 = 2;
-
-// The mark that an opcode has in the list.
-pub(crate) fn mark(opcode: u8) -> u8
-    ensures { result ≡ mark_of (form_of opcode) }
-{
-    FORMS[opcode as usize]
-}
-
-// The marks, in opcode order.
-const FORMS: [u8; 256] = [
+// The forms, in opcode order.
+pub(crate) static FORMS: [Form; 256] = [
     // Data transfer, 0 to 15.
-    REGISTERS, //   0 CPSWP
-    REGISTERS, //   1 LDST
-    RESERVED, //    2
-    IMMEDIATE, //   3 LDLI
-    IMMEDIATE, //   4 LDUI
-    IMMEDIATE, //   5 LDLIZ
-    IMMEDIATE, //   6 LDLISE
-    IMMEDIATE, //   7 LDLIF
-    RESERVED, //    8
-    RESERVED, //    9
-    RESERVED, //   10
-    RESERVED, //   11
-    RESERVED, //   12
-    RESERVED, //   13
-    RESERVED, //   14
-    RESERVED, //   15
+    Registers, //   0 CPSWP
+    Registers, //   1 LDST
+    Reserved, //    2
+    Immediate, //   3 LDLI
+    Immediate, //   4 LDUI
+    Immediate, //   5 LDLIZ
+    Immediate, //   6 LDLISE
+    Immediate, //   7 LDLIF
+    Reserved, //    8
+    Reserved, //    9
+    Reserved, //   10
+    Reserved, //   11
+    Reserved, //   12
+    Reserved, //   13
+    Reserved, //   14
+    Reserved, //   15
 
     // Integer arithmetic, 16 to 79.
-    REGISTERS, //  16 ADD
-    REGISTERS, //  17 ADC
-    REGISTERS, //  18 SUB
-    REGISTERS, //  19 SBB
-    REGISTERS, //  20 MUL
-    REGISTERS, //  21 UDIV
-    REGISTERS, //  22 SDIV
-    REGISTERS, //  23 MOD
-    REGISTERS, //  24 AND
-    REGISTERS, //  25 OR
-    REGISTERS, //  26 XOR
-    REGISTERS, //  27 NAND
-    REGISTERS, //  28 LNAND
-    REGISTERS, //  29 LSH
-    REGISTERS, //  30 URSH
-    REGISTERS, //  31 SRSH
-    REGISTERS, //  32 UGT
-    REGISTERS, //  33 SGT
-    REGISTERS, //  34 EQ
-    IMMEDIATE, //  35 ADDI
-    IMMEDIATE, //  36 ADCI
-    IMMEDIATE, //  37 SUBI
-    IMMEDIATE, //  38 SBBI
-    IMMEDIATE, //  39 MULI
-    IMMEDIATE, //  40 UDIVI
-    IMMEDIATE, //  41 SDIVI
-    IMMEDIATE, //  42 MODI
-    IMMEDIATE, //  43 ANDI
-    IMMEDIATE, //  44 ORI
-    IMMEDIATE, //  45 XORI
-    IMMEDIATE, //  46 LSHI
-    IMMEDIATE, //  47 URSHI
-    IMMEDIATE, //  48 SRSHI
-    IMMEDIATE, //  49 UGTI
-    IMMEDIATE, //  50 SGTI
-    IMMEDIATE, //  51 EQI
-    IMMEDIATE, //  52 ULTI
-    IMMEDIATE, //  53 SLTI
-    REGISTERS, //  54 SPLIT
-    RESERVED, //   55
-    RESERVED, //   56
-    RESERVED, //   57
-    RESERVED, //   58
-    RESERVED, //   59
-    RESERVED, //   60
-    RESERVED, //   61
-    RESERVED, //   62
-    RESERVED, //   63
-    RESERVED, //   64
-    RESERVED, //   65
-    RESERVED, //   66
-    RESERVED, //   67
-    RESERVED, //   68
-    RESERVED, //   69
-    RESERVED, //   70
-    RESERVED, //   71
-    RESERVED, //   72
-    RESERVED, //   73
-    RESERVED, //   74
-    RESERVED, //   75
-    RESERVED, //   76
-    RESERVED, //   77
-    RESERVED, //   78
-    RESERVED, //   79
+    Registers, //  16 ADD
+    Registers, //  17 ADC
+    Registers, //  18 SUB
+    Registers, //  19 SBB
+    Registers, //  20 MUL
+    Registers, //  21 UDIV
+    Registers, //  22 SDIV
+    Registers, //  23 MOD
+    Registers, //  24 AND
+    Registers, //  25 OR
+    Registers, //  26 XOR
+    Registers, //  27 NAND
+    Registers, //  28 LNAND
+    Registers, //  29 LSH
+    Registers, //  30 URSH
+    Registers, //  31 SRSH
+    Registers, //  32 UGT
+    Registers, //  33 SGT
+    Registers, //  34 EQ
+    Immediate, //  35 ADDI
+    Immediate, //  36 ADCI
+    Immediate, //  37 SUBI
+    Immediate, //  38 SBBI
+    Immediate, //  39 MULI
+    Immediate, //  40 UDIVI
+    Immediate, //  41 SDIVI
+    Immediate, //  42 MODI
+    Immediate, //  43 ANDI
+    Immediate, //  44 ORI
+    Immediate, //  45 XORI
+    Immediate, //  46 LSHI
+    Immediate, //  47 URSHI
+    Immediate, //  48 SRSHI
+    Immediate, //  49 UGTI
+    Immediate, //  50 SGTI
+    Immediate, //  51 EQI
+    Immediate, //  52 ULTI
+    Immediate, //  53 SLTI
+    Registers, //  54 SPLIT
+    Reserved, //   55
+    Reserved, //   56
+    Reserved, //   57
+    Reserved, //   58
+    Reserved, //   59
+    Reserved, //   60
+    Reserved, //   61
+    Reserved, //   62
+    Reserved, //   63
+    Reserved, //   64
+    Reserved, //   65
+    Reserved, //   66
+    Reserved, //   67
+    Reserved, //   68
+    Reserved, //   69
+    Reserved, //   70
+    Reserved, //   71
+    Reserved, //   72
+    Reserved, //   73
+    Reserved, //   74
+    Reserved, //   75
+    Reserved, //   76
+    Reserved, //   77
+    Reserved, //   78
+    Reserved, //   79
 
     // Floating-point arithmetic, 80 to 120.
-    REGISTERS, //  80 FADD
-    REGISTERS, //  81 FSUB
-    REGISTERS, //  82 FMUL
-    REGISTERS, //  83 FDIV
-    REGISTERS, //  84 FMOD
-    REGISTERS, //  85 FEXP
-    REGISTERS, //  86 FLOG
-    REGISTERS, //  87 FSIN
-    REGISTERS, //  88 FASIN
-    REGISTERS, //  89 FGT
-    REGISTERS, //  90 FEQ
-    REGISTERS, //  91 I2F
-    REGISTERS, //  92 F2I
-    IMMEDIATE, //  93 FADDI
-    IMMEDIATE, //  94 FSUBI
-    IMMEDIATE, //  95 FMULI
-    IMMEDIATE, //  96 FDIVI
-    IMMEDIATE, //  97 FMODI
-    IMMEDIATE, //  98 FEXPI
-    IMMEDIATE, //  99 FLOGI
-    IMMEDIATE, // 100 FSINI
-    IMMEDIATE, // 101 FASINI
-    IMMEDIATE, // 102 FGTI
-    IMMEDIATE, // 103 FEQI
-    IMMEDIATE, // 104 FLTI
-    IMMEDIATE, // 105 II2F
-    IMMEDIATE, // 106 IF2I
-    REGISTERS, // 107 FSPLIT
-    RESERVED, //  108
-    RESERVED, //  109
-    RESERVED, //  110
-    RESERVED, //  111
-    RESERVED, //  112
-    RESERVED, //  113
-    RESERVED, //  114
-    RESERVED, //  115
-    RESERVED, //  116
-    RESERVED, //  117
-    RESERVED, //  118
-    RESERVED, //  119
-    RESERVED, //  120
+    Registers, //  80 FADD
+    Registers, //  81 FSUB
+    Registers, //  82 FMUL
+    Registers, //  83 FDIV
+    Registers, //  84 FMOD
+    Registers, //  85 FEXP
+    Registers, //  86 FLOG
+    Registers, //  87 FSIN
+    Registers, //  88 FASIN
+    Registers, //  89 FGT
+    Registers, //  90 FEQ
+    Registers, //  91 I2F
+    Registers, //  92 F2I
+    Immediate, //  93 FADDI
+    Immediate, //  94 FSUBI
+    Immediate, //  95 FMULI
+    Immediate, //  96 FDIVI
+    Immediate, //  97 FMODI
+    Immediate, //  98 FEXPI
+    Immediate, //  99 FLOGI
+    Immediate, // 100 FSINI
+    Immediate, // 101 FASINI
+    Immediate, // 102 FGTI
+    Immediate, // 103 FEQI
+    Immediate, // 104 FLTI
+    Immediate, // 105 II2F
+    Immediate, // 106 IF2I
+    Registers, // 107 FSPLIT
+    Reserved, //  108
+    Reserved, //  109
+    Reserved, //  110
+    Reserved, //  111
+    Reserved, //  112
+    Reserved, //  113
+    Reserved, //  114
+    Reserved, //  115
+    Reserved, //  116
+    Reserved, //  117
+    Reserved, //  118
+    Reserved, //  119
+    Reserved, //  120
 
     // Control flow and the rest, 121 to 255.
-    IMMEDIATE, // 121 BZ
-    IMMEDIATE, // 122 INT
-    RESERVED, //  123
-    RESERVED, //  124
-    RESERVED, //  125
-    RESERVED, //  126
-    RESERVED, //  127
-    RESERVED, //  128
-    RESERVED, //  129
-    RESERVED, //  130
-    RESERVED, //  131
-    RESERVED, //  132
-    RESERVED, //  133
-    RESERVED, //  134
-    RESERVED, //  135
-    RESERVED, //  136
-    RESERVED, //  137
-    RESERVED, //  138
-    RESERVED, //  139
-    RESERVED, //  140
-    RESERVED, //  141
-    RESERVED, //  142
-    RESERVED, //  143
-    RESERVED, //  144
-    RESERVED, //  145
-    RESERVED, //  146
-    RESERVED, //  147
-    RESERVED, //  148
-    RESERVED, //  149
-    RESERVED, //  150
-    RESERVED, //  151
-    RESERVED, //  152
-    RESERVED, //  153
-    RESERVED, //  154
-    RESERVED, //  155
-    RESERVED, //  156
-    RESERVED, //  157
-    RESERVED, //  158
-    RESERVED, //  159
-    RESERVED, //  160
-    RESERVED, //  161
-    RESERVED, //  162
-    RESERVED, //  163
-    RESERVED, //  164
-    RESERVED, //  165
-    RESERVED, //  166
-    RESERVED, //  167
-    RESERVED, //  168
-    RESERVED, //  169
-    RESERVED, //  170
-    RESERVED, //  171
-    RESERVED, //  172
-    RESERVED, //  173
-    RESERVED, //  174
-    RESERVED, //  175
-    RESERVED, //  176
-    RESERVED, //  177
-    RESERVED, //  178
-    RESERVED, //  179
-    RESERVED, //  180
-    RESERVED, //  181
-    RESERVED, //  182
-    RESERVED, //  183
-    RESERVED, //  184
-    RESERVED, //  185
-    RESERVED, //  186
-    RESERVED, //  187
-    RESERVED, //  188
-    RESERVED, //  189
-    RESERVED, //  190
-    RESERVED, //  191
-    RESERVED, //  192
-    RESERVED, //  193
-    RESERVED, //  194
-    RESERVED, //  195
-    RESERVED, //  196
-    RESERVED, //  197
-    RESERVED, //  198
-    RESERVED, //  199
-    RESERVED, //  200
-    RESERVED, //  201
-    RESERVED, //  202
-    RESERVED, //  203
-    RESERVED, //  204
-    RESERVED, //  205
-    RESERVED, //  206
-    RESERVED, //  207
-    RESERVED, //  208
-    RESERVED, //  209
-    RESERVED, //  210
-    RESERVED, //  211
-    RESERVED, //  212
-    RESERVED, //  213
-    RESERVED, //  214
-    RESERVED, //  215
-    RESERVED, //  216
-    RESERVED, //  217
-    RESERVED, //  218
-    RESERVED, //  219
-    RESERVED, //  220
-    RESERVED, //  221
-    RESERVED, //  222
-    RESERVED, //  223
-    RESERVED, //  224
-    RESERVED, //  225
-    RESERVED, //  226
-    RESERVED, //  227
-    RESERVED, //  228
-    RESERVED, //  229
-    RESERVED, //  230
-    RESERVED, //  231
-    RESERVED, //  232
-    RESERVED, //  233
-    RESERVED, //  234
-    RESERVED, //  235
-    RESERVED, //  236
-    RESERVED, //  237
-    RESERVED, //  238
-    RESERVED, //  239
-    RESERVED, //  240
-    RESERVED, //  241
-    RESERVED, //  242
-    RESERVED, //  243
-    RESERVED, //  244
-    RESERVED, //  245
-    RESERVED, //  246
-    RESERVED, //  247
-    RESERVED, //  248
-    RESERVED, //  249
-    RESERVED, //  250
-    RESERVED, //  251
-    RESERVED, //  252
-    RESERVED, //  253
-    RESERVED, //  254
-    RESERVED, //  255
+    Immediate, // 121 BZ
+    Immediate, // 122 INT
+    Reserved, //  123
+    Reserved, //  124
+    Reserved, //  125
+    Reserved, //  126
+    Reserved, //  127
+    Reserved, //  128
+    Reserved, //  129
+    Reserved, //  130
+    Reserved, //  131
+    Reserved, //  132
+    Reserved, //  133
+    Reserved, //  134
+    Reserved, //  135
+    Reserved, //  136
+    Reserved, //  137
+    Reserved, //  138
+    Reserved, //  139
+    Reserved, //  140
+    Reserved, //  141
+    Reserved, //  142
+    Reserved, //  143
+    Reserved, //  144
+    Reserved, //  145
+    Reserved, //  146
+    Reserved, //  147
+    Reserved, //  148
+    Reserved, //  149
+    Reserved, //  150
+    Reserved, //  151
+    Reserved, //  152
+    Reserved, //  153
+    Reserved, //  154
+    Reserved, //  155
+    Reserved, //  156
+    Reserved, //  157
+    Reserved, //  158
+    Reserved, //  159
+    Reserved, //  160
+    Reserved, //  161
+    Reserved, //  162
+    Reserved, //  163
+    Reserved, //  164
+    Reserved, //  165
+    Reserved, //  166
+    Reserved, //  167
+    Reserved, //  168
+    Reserved, //  169
+    Reserved, //  170
+    Reserved, //  171
+    Reserved, //  172
+    Reserved, //  173
+    Reserved, //  174
+    Reserved, //  175
+    Reserved, //  176
+    Reserved, //  177
+    Reserved, //  178
+    Reserved, //  179
+    Reserved, //  180
+    Reserved, //  181
+    Reserved, //  182
+    Reserved, //  183
+    Reserved, //  184
+    Reserved, //  185
+    Reserved, //  186
+    Reserved, //  187
+    Reserved, //  188
+    Reserved, //  189
+    Reserved, //  190
+    Reserved, //  191
+    Reserved, //  192
+    Reserved, //  193
+    Reserved, //  194
+    Reserved, //  195
+    Reserved, //  196
+    Reserved, //  197
+    Reserved, //  198
+    Reserved, //  199
+    Reserved, //  200
+    Reserved, //  201
+    Reserved, //  202
+    Reserved, //  203
+    Reserved, //  204
+    Reserved, //  205
+    Reserved, //  206
+    Reserved, //  207
+    Reserved, //  208
+    Reserved, //  209
+    Reserved, //  210
+    Reserved, //  211
+    Reserved, //  212
+    Reserved, //  213
+    Reserved, //  214
+    Reserved, //  215
+    Reserved, //  216
+    Reserved, //  217
+    Reserved, //  218
+    Reserved, //  219
+    Reserved, //  220
+    Reserved, //  221
+    Reserved, //  222
+    Reserved, //  223
+    Reserved, //  224
+    Reserved, //  225
+    Reserved, //  226
+    Reserved, //  227
+    Reserved, //  228
+    Reserved, //  229
+    Reserved, //  230
+    Reserved, //  231
+    Reserved, //  232
+    Reserved, //  233
+    Reserved, //  234
+    Reserved, //  235
+    Reserved, //  236
+    Reserved, //  237
+    Reserved, //  238
+    Reserved, //  239
+    Reserved, //  240
+    Reserved, //  241
+    Reserved, //  242
+    Reserved, //  243
+    Reserved, //  244
+    Reserved, //  245
+    Reserved, //  246
+    Reserved, //  247
+    Reserved, //  248
+    Reserved, //  249
+    Reserved, //  250
+    Reserved, //  251
+    Reserved, //  252
+    Reserved, //  253
+    Reserved, //  254
+    Reserved, //  255
 ];

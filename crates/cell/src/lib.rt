@@ -8,7 +8,7 @@ ghost use Rattle.cell.specs.Answers.{encoded_reply};
 
 mod forms;
 
-use forms::{IMMEDIATE, REGISTERS, mark};
+use forms::FORMS;
 
 // How the 24 bits below an opcode are read: three registers, a register and an immediate, or not at all.
 #[derive(Clone, Copy)]
@@ -33,26 +33,22 @@ pub enum Operands {
     Immediate { n: u8, imm: u16 },
 }
 
-// What encoding answers: the cell; or 21, the opcode is reserved; or 22, the operands are not of its form.
-#[derive(Clone, Copy)]
-pub enum Encoded {
-    Cell(u32),
+// Why an instruction is not encoded: 21, the opcode is reserved; 22, the operands are not of its form.
+#[derive(Clone, Copy, Debug, PartialEq, Eq)]
+pub enum EncodeError {
     ReservedOpcode,
     OtherForm,
 }
 
 // The form of an opcode, as the list has it.
+#[tactic(auto, using(crate::proofs::Listed::form_listed))]
 pub fn form_of(opcode: u8) -> Form
     ensures { result ≡ form_of opcode }
 {
-    match mark(opcode) {
-        REGISTERS => Form::Registers,
-        IMMEDIATE => Form::Immediate,
-        _ => Form::Reserved,
-    }
+    FORMS[opcode as usize]
 }
 
-// A cell's opcode, its highest 8 bits.
+// A cell's opcode, its highest 8 bits. A step takes it and the numbers below from each cell: their bodies stay those that docs/COST.md counts.
 pub fn opcode_of(cell: u32) -> u32
     ensures { (result ≡ opcode_of cell) × (result < 256) }
 {
@@ -88,16 +84,13 @@ pub fn imm_of(cell: u32) -> u16
 }
 
 // The instruction that a cell is.
+#[tactic(auto, unfolding(crate::specs::Cell::decode_of))]
 pub fn decode(cell: u32) -> Instruction
     ensures { result ≡ decode_of cell }
 {
-    let opcode = opcode_of(cell) as u8;
-    let n = n_of(cell) as u8;
-    let m = m_of(cell) as u8;
-    let l = l_of(cell) as u8;
+    let [opcode, n, m, l] = cell.to_be_bytes();
     let imm = imm_of(cell);
-    let form = form_of(opcode);
-    match form {
+    match form_of(opcode) {
         Form::Registers => Instruction::Registers { opcode, n, m, l },
         Form::Immediate => Instruction::Immediate { opcode, n, imm },
         Form::Reserved => Instruction::Reserved(cell),
@@ -105,24 +98,19 @@ pub fn decode(cell: u32) -> Instruction
 }
 
 // The cell of an opcode and operands, or the refusal.
-pub fn encode(opcode: u8, operands: Operands) -> Encoded
+#[tactic(auto, unfolding(crate::specs::Cell::encode_of))]
+pub fn encode(opcode: u8, operands: Operands) -> Result<u32, EncodeError>
     ensures { encoded_reply result ≡ encode_of opcode operands }
 {
-    let form = form_of(opcode);
-    let high = 16777216 * (opcode as u32);
-    match form {
-        Form::Registers => match operands {
-            Operands::Registers { n, m, l } => {
-                Encoded::Cell(high + 65536 * (n as u32) + 256 * (m as u32) + (l as u32))
-            }
-            Operands::Immediate { n: _, imm: _ } => Encoded::OtherForm,
-        },
-        Form::Immediate => match operands {
-            Operands::Registers { n: _, m: _, l: _ } => Encoded::OtherForm,
-            Operands::Immediate { n, imm } => {
-                Encoded::Cell(high + 65536 * (n as u32) + (imm as u32))
-            }
-        },
-        Form::Reserved => Encoded::ReservedOpcode,
+    match (form_of(opcode), operands) {
+        (Form::Registers, Operands::Registers { n, m, l }) => {
+            Ok(u32::from_be_bytes([opcode, n, m, l]))
+        }
+        (Form::Immediate, Operands::Immediate { n, imm }) => {
+            let [high, low] = imm.to_be_bytes();
+            Ok(u32::from_be_bytes([opcode, n, high, low]))
+        }
+        (Form::Reserved, _) => Err(EncodeError::ReservedOpcode),
+        _ => Err(EncodeError::OtherForm),
     }
 }

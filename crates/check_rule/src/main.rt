@@ -12,6 +12,7 @@ use std::io;
 use std::io::Write;
 
 // Puts the whole text of what the check says of an input, and answers its length.
+#[tactic(auto, using(text::proofs::Adds::added_front), unfolding(verdict::specs::Told::text_of))]
 fn tell(input: &[u8], argument: &[u8], text: &mut [u8; verdict::TEXT]) -> usize
     ensures within { result ≤ length text.new }
     ensures whole { take result text.new ≡ text_of input.now argument.now }

@@ -26,27 +26,31 @@ use Rattle.journal.specs.Journal.{writes_in, regs_after, cells_after}
 use Rattle.journal.proofs.Lists.{miss}
 use Rattle.journal.proofs.Undo.{length-cells}
 use Rattle.profile.specs.declared.Flaw.TheVariants as flaw
-use Rattle.profile.specs.declared.Judged.{Judged}
-use Rattle.profile.specs.declared.Judged.TheVariants.{Allowed, Flawed}
+use Rattle.std.specs.Prelude.{Result, Ok, Err, ⊤}
+use Rattle.profile.specs.declared.Flaw.{Flaw}
 use Rattle.profile.specs.Profile.{ends, into, judged_by, judged_of}
 use Rattle.profile.specs.Profile as profile
 use Rattle.step.specs.Step.{action_in, stores_into, refusal_of, effect_in}
 use Rattle.step.proofs.Keeps.{past, clear_in}
 
+-- what a profile says of a cell that it allows
+abbrev pub fine : Result ⊤ Flaw
+fine = Ok tt
+
 -- the code of a rule: cells 0 to l-1 are there, and each is allowed
 pub record Code (l : ℕ) (cells : List ℕ) : Type 0 where
   pub within : l ≤ length cells
   pub few : length cells ≤ most_cells
-  pub allowed : (i : ℕ) → i < l → judged_of (get_or cells i 0) ≡ Allowed
+  pub allowed : (i : ℕ) → i < l → judged_of (get_or cells i 0) ≡ fine
 
-flawed_allowed : {P : Type 0} {f : _} → Flawed f ≡ Allowed → P
-flawed_allowed h = let z : ◌≡◌ {A = ℕ} 0 1 = cc in absurd (omega arith)
+flawed_allowed : {P : Type 0} {f : Flaw} → Err f ≡ fine → P
+flawed_allowed h = absurd (cc)
 
 pub false_true : {P : Type 0} → false ≡ true → P
-false_true h = let z : ◌≡◌ {A = ℕ} 0 1 = cc in absurd (omega arith)
+false_true h = absurd (cc)
 
 -- a target that is allowed is not R255
-no_target : (t : Bool) (rest : Judged) → cond t (Flawed flaw.Target) rest ≡ Allowed → (t ≡ false) × (rest ≡ Allowed)
+no_target : (t : Bool) (rest : Result ⊤ Flaw) → cond t (Err flaw.Target) rest ≡ fine → (t ≡ false) × (rest ≡ fine)
 no_target true rest h = flawed_allowed h
 no_target false rest h = (refl, h)
 
@@ -54,10 +58,10 @@ turned : (i : ℕ) → eqb i 255 ≡ false → eqb 255 i ≡ false
 turned i h = ne_eqb 255 i (λ e. eqb-false i 255 h (sym e))
 
 -- a branch that is allowed goes forward
-goes_ahead : (imm : ℕ) → profile.ahead imm ≡ Allowed → imm < 32768
+goes_ahead : (imm : ℕ) → profile.ahead imm ≡ fine → imm < 32768
 goes_ahead imm h = go (ltb 32767 imm) refl h
   where
-    go : (t : Bool) → ltb 32767 imm ≡ t → cond t (Flawed flaw.Back) Allowed ≡ Allowed → imm < 32768
+    go : (t : Bool) → ltb 32767 imm ≡ t → cond t (Err flaw.Back) fine ≡ fine → imm < 32768
     go true e h = flawed_allowed h
     go false e h = omega (arith, ltb-false 32767 imm e)
 
@@ -123,7 +127,7 @@ module _ (l : ℕ) (s : State) (low : pc_of s.regs < 65536) where
   loaded p n v e h k = picked Steady (eqb p 0) _ _ (λ t. k) (λ t. record { pc = k.pc; a = turned n h; b = k.b; kept = k.kept })
 
   -- 3 to 7: LDUI R255, #65535, or another register
-  puts : (t : Bool) (n : ℕ) (v : Value) → eqb n 255 ≡ t → cond (ends v) Allowed (into n Allowed) ≡ Allowed → Ahead l s (effect_of (Put n v) s)
+  puts : (t : Bool) (n : ℕ) (v : Value) → eqb n 255 ≡ t → cond (ends v) fine (into n fine) ≡ fine → Ahead l s (effect_of (Put n v) s)
   unfolding effect_of regs_after
   puts false n v e h = steadily _ (record { pc = next; a = turned n e; b = refl; kept = false_true })
   puts true n v e h = record {
@@ -132,7 +136,7 @@ module _ (l : ℕ) (s : State) (low : pc_of s.regs < 65536) where
     kept = false_true;
   }
     where
-      ends_it : (u : Bool) → cond u Allowed (Flawed flaw.Target) ≡ Allowed → u ≡ true
+      ends_it : (u : Bool) → cond u fine (Err flaw.Target) ≡ fine → u ≡ true
       ends_it true q = refl
       ends_it false q = flawed_allowed q
 
@@ -141,7 +145,7 @@ module _ (l : ℕ) (s : State) (low : pc_of s.regs < 65536) where
   unfolding se_of
   branches imm h = rw (lt-ltb imm 0x8000 h) (omega arith)
 
-  ahead : (a : Action) → judged_by a ≡ Allowed → stores_into l a s ≡ false → Ahead l s (effect_of a s)
+  ahead : (a : Action) → judged_by a ≡ fine → stores_into l a s ≡ false → Ahead l s (effect_of a s)
   unfolding effect_of judged_by stores_into
   ahead (Cpswp n m k) h g =
       let p = no_target (eqb n 255) _ h in
@@ -182,7 +186,7 @@ code_kept l cells e kept c = record {
     elsewhere false i h f = refl
 
 -- the cell that a PC in the code fetches is allowed
-pub allowed_in : (l : ℕ) (s : State) → Code l s.cells → pc_of s.regs < l → judged_by (action_in s) ≡ Allowed
+pub allowed_in : (l : ℕ) (s : State) → Code l s.cells → pc_of s.regs < l → judged_by (action_in s) ≡ fine
 unfolding judged_of
 allowed_in l s c h = c.allowed (pc_of s.regs) h
 
@@ -200,7 +204,7 @@ module _ (s : State) where
   loads_on : (p n v : ℕ) (e : Effect) → Silent e → Silent (load p n v e)
   loads_on p n v e h = picked Silent (eqb p 0) _ _ (λ t. h) (λ t. h)
 
-  goes_on : (a : Action) → judged_by a ≡ Allowed → Silent (effect_of a s)
+  goes_on : (a : Action) → judged_by a ≡ fine → Silent (effect_of a s)
   unfolding effect_of judged_by
   goes_on (Cpswp n m k) h = refl
   goes_on (Ldst n m k) h =
@@ -215,19 +219,19 @@ module _ (s : State) where
   goes_on Float h = flawed_allowed h
   goes_on Illegal h = flawed_allowed h
 
-  pub no_interrupt : judged_by (action_in s) ≡ Allowed → (v i : ℕ) → (effect_in s).answer ≡ Interrupt v i → ⊥
+  pub no_interrupt : judged_by (action_in s) ≡ fine → (v i : ℕ) → (effect_in s).answer ≡ Interrupt v i → ⊥
   unfolding effect_in
-  no_interrupt h v i e = let a = goes_on (action_in s) h in let z : ◌≡◌ {A = ℕ} 0 1 = cc in omega arith
+  no_interrupt h v i e = let a = goes_on (action_in s) h in cc
 
-  pub no_float : judged_by (action_in s) ≡ Allowed → action_in s ≡ Float → ⊥
+  pub no_float : judged_by (action_in s) ≡ fine → action_in s ≡ Float → ⊥
   unfolding judged_by
   no_float h e = flawed_allowed (rw e at h)
 
-  pub no_calculation : judged_by (action_in s) ≡ Allowed → (op : FloatOp) (n : ℕ) (x y : Value) → action_in s ≡ Calculate op n x y → ⊥
+  pub no_calculation : judged_by (action_in s) ≡ fine → (op : FloatOp) (n : ℕ) (x y : Value) → action_in s ≡ Calculate op n x y → ⊥
   unfolding judged_by
   no_calculation h op n x y e = flawed_allowed (rw e at h)
 
-  pub no_wild : judged_by (action_in s) ≡ Allowed → (n imm : ℕ) → action_in s ≡ Bz n imm → wild s.regs n imm ≡ true → ⊥
+  pub no_wild : judged_by (action_in s) ≡ fine → (n imm : ℕ) → action_in s ≡ Bz n imm → wild s.regs n imm ≡ true → ⊥
   unfolding judged_by
   no_wild h n imm e w = let t = tame s.regs n imm (goes_ahead imm (rw e at h)) in false_true (sym t ∙ w)
 

@@ -17,7 +17,7 @@ use Rattle.journal.specs.Journal.{apply_of}
 use Rattle.journal.proofs.Undo.{lengths}
 use Rattle.profile.specs.Profile.{rule_of}
 use Rattle.profile.proofs.Allowed.{forward_length, forward_allowed}
-use Rattle.step.specs.Step.{refused, Moved, action_in, stores_into, code_of, refusal_of, effect_in, moved, step_of}
+use Rattle.step.specs.Step.{Moved, action_in, stores_into, code_of, refusal_of, effect_in, moved, step_of}
 use Rattle.step.specs.Steps.{steps, course_after}
 use Rattle.step.proofs.Steps.{done_with}
 use Rattle.call.specs.Calls.{Out, run_from, run_begins, run_of}
@@ -140,7 +140,7 @@ pub run_said : (kind : Kind) (n : ℕ) (s : State) → listed (run_stops kind) (
 unfolding listed
 run_said Plain n s =
     call_said (run_stops Plain) (run_begins Plain s) (run_from Plain) n s
-    (run_begins_lem (run_stops Plain) refl refl refl s Plain (λ l e. let z : ◌≡◌ {A = ℕ} 0 1 = cc in absurd (omega arith)))
+    (run_begins_lem (run_stops Plain) refl refl refl s Plain (λ l e. absurd (cc)))
     (λ h. widen (0 ∷ step_stops Plain) (run_stops Plain) refl (run_of Plain n s).said.number
     (ends_fine Plain (step_stops Plain) s (λ k g. step_fine (step_stops Plain) Plain _ (any_step Plain _)) (repeated Plain n s h).ends))
 run_said (Profile l) n s =

@@ -8,7 +8,7 @@ use mathlib.Core.Bool.{Bool, cond, not}
 use mathlib.Core.Option.{Option, none, some}
 use mathlib.Core.List.{List, []}
 use lib.Dec.{eqb}
-use lib.ListN.{length, replicate, set}
+use lib.ListN.{length, get_or, replicate, set}
 use Rattle.half.specs.declared.Extension.{Extension}
 use Rattle.half.specs.Half.{se_of, ex_of, extended}
 use Rattle.word.specs.declared.Op.{Op}
@@ -19,7 +19,8 @@ use Rattle.float.specs.Float.{calculated_of}
 use Rattle.cell.specs.declared.Form.{Form}
 use Rattle.cell.specs.declared.Instruction.{Instruction}
 use Rattle.cell.specs.declared.Operands.{Operands}
-use Rattle.cell.specs.declared.Encoded.{Encoded}
+use Rattle.std.specs.Prelude.{Result, Ok, Err, ⊤, is_ok, nat_eq, slice_set, if◌then◌else◌}
+use Rattle.cell.specs.declared.EncodeError.{EncodeError}
 use Rattle.cell.specs.Cell as cell
 use Rattle.cell.specs.Answers.{encoded_reply}
 use Rattle.cell.proofs.RoundTrip as cells
@@ -27,11 +28,11 @@ use Rattle.lent.specs.Lesser.{Lesser}
 use Rattle.lent.specs.Little.{bytes_of, number_at}
 use Rattle.text.specs.Text.{Added}
 use Rattle.text.proofs.Adds as text
-use Rattle.line.specs.declared.Printed.{Printed}
+use Rattle.line.specs.declared.NoRoom.{NoRoom}
 use Rattle.line.specs.Line as line
 use Rattle.line.specs.Answers.{shown_of}
 use Rattle.line.proofs.Lines as lines
-use Rattle.reader.specs.declared.ReadLine.{ReadLine}
+use Rattle.reader.specs.declared.NoLine.{NoLine}
 use Rattle.reader.specs.Reader as reader
 use Rattle.reader.specs.Answers.{read_reply, Small}
 use Rattle.reader.proofs.RoundTrip as trips
@@ -46,15 +47,18 @@ use Rattle.machine.specs.declared.Stop.{Stop}
 use Rattle.machine.specs.State.{fresh_machine, state_of, bad_cells, bad_settings, entries_in}
 use Rattle.packed.specs.Packed.{packed_of, unpacked_of}
 use Rattle.journal.specs.declared.Entry.{Entry}
+use Rattle.journal.specs.declared.Damaged.{Damaged}
 use Rattle.journal.specs.Journal.{entered, first_in, damaged_of, restored, cells_before, settled_of}
-use Rattle.carried.specs.Left.{Left, left, left_of, before}
-use Rattle.call.specs.declared.Checked.{Checked}
+use Rattle.carried.specs.Left.{Left, left_of}
+use Rattle.carried.specs.declared.Step.{Step}
+use Rattle.carried.specs.Step.{Settled, left_in, before_in}
 use Rattle.machine.specs.Stops.{said_of, plainly}
 use Rattle.machine.proofs.Named.{said_once}
 use Rattle.machine.specs.declared.Kind.{Kind}
-use Rattle.profile.specs.declared.Judged.{Judged}
-use Rattle.profile.specs.declared.Rule.{Rule}
+use Rattle.profile.specs.declared.Flaw.{Flaw}
+use Rattle.profile.specs.declared.BadRule.{BadRule}
 use Rattle.profile.specs.Profile.{judged_of, rule_of}
+use Rattle.profile.specs.Answers.{barred_by}
 use Rattle.step.specs.Step.{code_of, outside}
 use Rattle.guard.specs.Guard.{guarded_of, stores_below}
 use Rattle.stopped.specs.Stopped as stopped
@@ -62,13 +66,9 @@ use Rattle.call.specs.Calls.{check_of, said_by, begins_of, run_of, back_of}
 use Rattle.call.specs.Answers.{checked_of, out_of}
 use Rattle.call.proofs.Named as calls
 use Rattle.refusal.specs.declared.Refusal.{Refusal}
-use Rattle.job.specs.declared.Answer.{Answer}
-use Rattle.job.specs.declared.Answer.TheVariants.{Done, Refused}
-use Rattle.job.specs.declared.Loaded.{Loaded}
-use Rattle.saver.specs.declared.Saved.{Saved}
-use Rattle.saver.specs.declared.Saved.TheVariants as save
+use Rattle.job.specs.declared.Refused.{Refused}
 use Rattle.job.specs.Job as job
-use Rattle.job.specs.Answers.{notice_of, load_with}
+use Rattle.job.specs.Answers.{load_with}
 use Rattle.saver.specs.Saving as saving
 use Rattle.saver.specs.Answers.{save_with}
 use Rattle.refusal.specs.Refusal.{number_of}
@@ -86,6 +86,10 @@ ex_once x r t = unique
 
 pub extend_once : (by : Extension) (x r t : ℕ) → r ≡ extended by x → t ≡ extended by x → r ≡ t
 extend_once by x r t = unique
+
+-- an operation's value with its flags, by `Written::plain` and `Written::governing`
+pub made_once : (w r t : Written) → r ≡ w → t ≡ w → r ≡ t
+made_once w r t = unique
 
 pub operate_once : (op : Op) (m l n flags : ℕ) (r t : Written) → r ≡ written_of op m l n flags → t ≡ written_of op m l n flags → r ≡ t
 operate_once op m l n flags r t = unique
@@ -106,7 +110,7 @@ imm_of_once c r t = unique
 pub decode_once : (c : ℕ) (r t : Instruction) → r ≡ cell.decode_of c → t ≡ cell.decode_of c → r ≡ t
 decode_once c r t = unique
 
-pub encode_once : (opcode : ℕ) (o : Operands) (r t : Encoded) → encoded_reply r ≡ cell.encode_of opcode o → encoded_reply t ≡ cell.encode_of opcode o → r ≡ t
+pub encode_once : (opcode : ℕ) (o : Operands) (r t : Result ℕ EncodeError) → encoded_reply r ≡ cell.encode_of opcode o → encoded_reply t ≡ cell.encode_of opcode o → r ≡ t
 encode_once opcode o r t p q = cells.said_once r t (unique p q)
 
 -- lengths, words and bytes that are lent
@@ -126,12 +130,12 @@ bytes_once number r t = unique
 pub put_once : {before piece after after' : List ℕ} {at r t : ℕ} → Added before at piece after r → Added before at piece after' t → (after ≡ after') × (r ≡ t)
 put_once = text.once
 
-pub print_once : (c : ℕ) (before : List ℕ) (r t : Printed) (room room' : List ℕ) → shown_of r room ≡ line.print_of c before → shown_of t room' ≡ line.print_of c before
+pub print_once : (c : ℕ) (before : List ℕ) (r t : Result ℕ NoRoom) (room room' : List ℕ) → shown_of r room ≡ line.print_of c before → shown_of t room' ≡ line.print_of c before
     → (r ≡ t) × (room ≡ room')
 print_once c before r t room room' p q = lines.print_once r t room room' (unique p q)
 
 -- a cell that is read is one of 32 bits
-pub read_once : (text : List ℕ) (r t : ReadLine) → Small r → reader.Reads text (read_reply r) → reader.Reads text (read_reply t) → r ≡ t
+pub read_once : (text : List ℕ) (r t : Result ℕ NoLine) → Small r → reader.Reads text (read_reply r) → reader.Reads text (read_reply t) → r ≡ t
 read_once = trips.read_once
 
 pub fresh_once : (r t : Machine) → r ≡ fresh_machine → t ≡ fresh_machine → r ≡ t
@@ -173,16 +177,22 @@ entry_in_once part r t = unique
 pub enter_once : (before : List ℕ) (e : Entry) (after after' : List ℕ) → after ≡ entered before e → after' ≡ entered before e → after ≡ after'
 enter_once before e after after' = unique
 
-pub take_back_once : (e : Entry) (regs cells : List ℕ) (r t : Bool) (after after' kept kept' : List ℕ)
-    → (r ≡ not (damaged_of (length cells) e)) × (after ≡ cond r (restored e regs) regs) × (kept ≡ cond r (cells_before e cells) cells)
-    → (t ≡ not (damaged_of (length cells) e)) × (after' ≡ cond t (restored e regs) regs) × (kept' ≡ cond t (cells_before e cells) cells)
+taken_once : (r t : Result ⊤ Damaged) → is_ok r ≡ is_ok t → r ≡ t
+taken_once (Ok done) (Ok also) h = refl
+taken_once (Ok done) (Err why) h = absurd (cc)
+taken_once (Err why) (Ok done) h = absurd (cc)
+taken_once (Err why) (Err also) h = refl
+
+pub take_back_once : (e : Entry) (regs cells : List ℕ) (r t : Result ⊤ Damaged) (after after' kept kept' : List ℕ)
+    → (is_ok r ≡ not (damaged_of (length cells) e)) × (after ≡ cond (is_ok r) (restored e regs) regs) × (kept ≡ cond (is_ok r) (cells_before e cells) cells)
+    → (is_ok t ≡ not (damaged_of (length cells) e)) × (after' ≡ cond (is_ok t) (restored e regs) regs) × (kept' ≡ cond (is_ok t) (cells_before e cells) cells)
     → (r ≡ t) × (after ≡ after') × (kept ≡ kept')
 take_back_once e regs cells r t after after' kept kept' p q =
     let s = unique p.0 q.0 in
-    (s, unique (rw s at p.1) q.1, unique (rw s at p.2) q.2)
+    (taken_once r t s, unique (rw s at p.1) q.1, unique (rw s at p.2) q.2)
 
--- the next PC; an operand; whether a pointer faults; an entry written and PC moved on, by `move_on` and, with n answered as `n_of` does, by `keep_n`; what an
--- operation wrote, by `carried::put`
+-- the next PC; an operand; whether a pointer faults; PC moved on, by `advance`; an entry made, by `entry_at`; an entry written and PC moved on, by `keep`,
+-- `move_on` and, with n answered as `n_of` does, by `keep_n`; what an operation wrote, by `carried::Step::put`; what is refused
 pub next_of_once : (pc r t : ℕ) → r ≡ (pc + 1) % 4294967296 → t ≡ (pc + 1) % 4294967296 → r ≡ t
 next_of_once pc r t = unique
 
@@ -192,49 +202,71 @@ operand_once regs i r t = unique
 pub fault_once : (size p : ℕ) (r t : Bool) → r ≡ faults size p → t ≡ faults size p → r ≡ t
 fault_once size p r t = unique
 
-pub move_on_once : (before regs : List ℕ) (e : Entry) (part part' after after' : List ℕ)
-    → (part ≡ entered before e) × (after ≡ set regs 255 (next_of regs)) → (part' ≡ entered before e) × (after' ≡ set regs 255 (next_of regs))
-    → (part ≡ part') × (after ≡ after')
-move_on_once before regs e part part' after after' p q = (unique p.0 q.0, unique p.1 q.1)
+pub advance_once : (regs : List ℕ) (r t : ℕ) (after after' : List ℕ)
+    → (r ≡ get_or regs 255 0) × (after ≡ set regs 255 (next_of regs)) → (t ≡ get_or regs 255 0) × (after' ≡ set regs 255 (next_of regs))
+    → (r ≡ t) × (after ≡ after')
+advance_once regs r t after after' p q = (unique p.0 q.0, unique p.1 q.1)
 
-pub result_once : (w : Written) (n s told : ℕ) (regs after after' : List ℕ) (r t said said' : ℕ)
-    → (after ≡ set regs (n % 256) w.value) × (r ≡ flags_of s w.governed w.raised) × (said ≡ cond (eqb w.raised 0) told w.raised)
-    → (after' ≡ set regs (n % 256) w.value) × (t ≡ flags_of s w.governed w.raised) × (said' ≡ cond (eqb w.raised 0) told w.raised)
-    → (after ≡ after') × (r ≡ t) × (said ≡ said')
-result_once w n s told regs after after' r t said said' p q = (unique p.0 q.0, unique p.1 q.1, unique p.2 q.2)
+pub entry_at_once : (e r t : Entry) → r ≡ e → t ≡ e → r ≡ t
+entry_at_once e r t = unique
 
--- An instruction carried out over 256 registers, by `carry_out` and `transfer`: registers, cells and part, the settings, and what is told.
-module _ (told : ℕ) (a : Action) (regs : List ℕ) (long : length regs ≡ 256) (s : ℕ) (part : List ℕ) where
-  pub carry_out_once : (host cells after after' kept kept' noted noted' : List ℕ) (r t said said' : ℕ)
-      → (length regs ≡ 256 → left after kept noted r said ≡ left_of told a (before regs s host cells part))
-      → (length regs ≡ 256 → left after' kept' noted' t said' ≡ left_of told a (before regs s host cells part))
-      → (after ≡ after') × (kept ≡ kept') × (noted ≡ noted') × (r ≡ t) × (said ≡ said')
-  carry_out_once host cells after after' kept kept' noted noted' r t said said' p q =
-      let e = unique (p long) (q long) in
-      (ap (λ (l : Left). l.regs) e, ap (λ (l : Left). l.cells) e, ap (λ (l : Left). l.part) e, ap (λ (l : Left). l.settings) e, ap (λ (l : Left). l.told) e)
+-- registers and part, the settings, and what is told, of two steps
+abbrev pub Alike : Step → Step → Type 0
+Alike r t = (r.regs.now ≡ t.regs.now) × (r.part.now ≡ t.part.now) × (r.settings ≡ t.settings) × (r.told ≡ t.told)
 
-  -- One that is lent no cells promises it for all cells, and so for none: `registers`, `immediate`, `turned`, `calculated`, `branch`, `interrupt`, `illegal`; and `swap`,
-  -- `load`, `split`, which tell nothing, and promise it for whatever was told.
-  pub without_cells_once : (after after' noted noted' : List ℕ) (r t said said' : ℕ)
-      → ((host cells : List ℕ) → length regs ≡ 256 → left after cells noted r said ≡ left_of told a (before regs s host cells part))
-      → ((host cells : List ℕ) → length regs ≡ 256 → left after' cells noted' t said' ≡ left_of told a (before regs s host cells part))
-      → (after ≡ after') × (noted ≡ noted') × (r ≡ t) × (said ≡ said')
-  without_cells_once after after' noted noted' r t said said' p q =
-      let w = carry_out_once [] [] after after' [] [] noted noted' r t said said' (p [] []) (q [] []) in
-      (w.0, w.2, w.3, w.4)
+pub move_on_once : (e : Entry) (old r t : Step)
+    → (r.part.now ≡ entered old.part.now e) × (r.regs.now ≡ set old.regs.now 255 (next_of old.regs.now)) → Settled old r
+    → (t.part.now ≡ entered old.part.now e) × (t.regs.now ≡ set old.regs.now 255 (next_of old.regs.now)) → Settled old t
+    → Alike r t
+move_on_once e old r t p s q u = (unique p.1 q.1, unique p.0 q.0, unique s.0 u.0, unique s.1 u.1)
+
+pub result_once : (w : Written) (n : ℕ) (old r t : Step)
+    → (r.regs.now ≡ slice_set old.regs.now (n % 256) w.value) × (r.part.now ≡ old.part.now) × (r.settings ≡ flags_of old.settings w.governed w.raised)
+    × (r.told ≡ (if nat_eq w.raised 0 then old.told else w.raised))
+    → (t.regs.now ≡ slice_set old.regs.now (n % 256) w.value) × (t.part.now ≡ old.part.now) × (t.settings ≡ flags_of old.settings w.governed w.raised)
+    × (t.told ≡ (if nat_eq w.raised 0 then old.told else w.raised))
+    → Alike r t
+result_once w n old r t p q = (unique p.0 q.0, unique p.1 q.1, unique p.2 q.2, unique p.3 q.3)
+
+pub refuse_once : (told : ℕ) (old r t : Step)
+    → (r.regs.now ≡ old.regs.now) × (r.part.now ≡ old.part.now) × (r.settings ≡ old.settings) × (r.told ≡ told)
+    → (t.regs.now ≡ old.regs.now) × (t.part.now ≡ old.part.now) × (t.settings ≡ old.settings) × (t.told ≡ told)
+    → Alike r t
+refuse_once told old r t p q = (unique p.0 q.0, unique p.1 q.1, unique p.2 q.2, unique p.3 q.3)
+
+-- An instruction carried out over a step, by `carry_out` and `transfer`: what the step has, and the cells.
+module _ (a : Action) (old r t : Step) where
+  pub carry_out_once : (host cells kept kept' : List ℕ) → left_in r kept ≡ left_of old.told a (before_in old host cells)
+      → left_in t kept' ≡ left_of old.told a (before_in old host cells) → Alike r t × (kept ≡ kept')
+  carry_out_once host cells kept kept' p q =
+      let e = unique p q in
+      ((ap (λ (l : Left). l.regs) e, ap (λ (l : Left). l.part) e, ap (λ (l : Left). l.settings) e, ap (λ (l : Left). l.told) e), ap (λ (l : Left). l.cells) e)
+
+  -- One that is lent no cells promises it for all cells, and so for none: `registers`, `immediate`, `turned`, `calculated`, `branch`, `interrupt`, `illegal`, `swap`,
+  -- `load`, `split`.
+  pub without_cells_once : ((host cells : List ℕ) → left_in r cells ≡ left_of old.told a (before_in old host cells))
+      → ((host cells : List ℕ) → left_in t cells ≡ left_of old.told a (before_in old host cells)) → Alike r t
+  without_cells_once p q = (carry_out_once [] [] [] [] (p [] []) (q [] [])).0
 
 -- what a profile says of a cell and of a rule
-pub judge_once : (c : ℕ) (r t : Judged) → r ≡ judged_of c → t ≡ judged_of c → r ≡ t
+pub judge_once : (c : ℕ) (r t : Result ⊤ Flaw) → r ≡ judged_of c → t ≡ judged_of c → r ≡ t
 judge_once c r t = unique
 
-pub rule_once : (l : ℕ) (cells : List ℕ) (r t : Rule) → r ≡ rule_of l cells → t ≡ rule_of l cells → r ≡ t
+pub rule_once : (l : ℕ) (cells : List ℕ) (r t : Result ⊤ BadRule) → r ≡ rule_of l cells → t ≡ rule_of l cells → r ≡ t
 rule_once l cells r t = unique
 
+-- the stop that a bad rule becomes
+pub barred_once : (bad : BadRule) (r t : Stop) → some (said_of r) ≡ barred_by (Err bad) → some (said_of t) ≡ barred_by (Err bad) → r ≡ t
+barred_once bad r t p q =
+    let e = unique p q in
+    let s : said_of r ≡ said_of t = cc in
+    said_once r t s
+
 -- what a call begins with, and how many steps it can do
-pub check_once : (m : ℕ) (s : Settings) (j depth : ℕ) (r t : Checked) → checked_of r ≡ said_by (check_of m s j depth) → checked_of t ≡ said_by (check_of m s j depth) → r ≡ t
+pub check_once : (m : ℕ) (s : Settings) (j depth : ℕ) (r t : Result ⊤ Stop) → checked_of r ≡ said_by (check_of m s j depth) → checked_of t ≡ said_by (check_of m s j depth) → r ≡ t
 check_once m s j depth r t p q = calls.checked_once r t (unique p q)
 
-pub begins_once : (kind : Kind) (cells : List ℕ) (s : Settings) (j depth : ℕ) (r t : Checked) → checked_of r ≡ begins_of kind cells s j depth
+pub begins_once : (kind : Kind) (cells : List ℕ) (s : Settings) (j depth : ℕ) (r t : Result ⊤ Stop) → checked_of r ≡ begins_of kind cells s j depth
     → checked_of t ≡ begins_of kind cells s j depth → r ≡ t
 begins_once kind cells s j depth r t p q = calls.checked_once r t (unique p q)
 
@@ -285,39 +317,40 @@ pub refusal_once : (why : Refusal) (r t : ℕ) → r ≡ number_of why → t ≡
 refusal_once why r t = unique
 
 -- what a load and a save answered, from what they said
-abbrev answered : Option Refusal → ℕ → Answer
-answered none offset = Done
-answered (some why) offset = Refused why offset
+abbrev answered : Option Refusal → Machine → ℕ → Result Machine Refused
+answered none m offset = Ok m
+answered (some why) m offset = Err (record { why = why; offset = offset })
 
-abbrev loaded : job.Load → Loaded
-loaded l = record { machine = l.machine; answer = answered (heard l.said.number) l.said.offset }
+abbrev loaded : job.Load → Result Machine Refused
+loaded l = answered (heard l.said.number) l.machine l.said.offset
 
-answer_said : (a : Answer) → answered (heard (notice_of a).number) (notice_of a).offset ≡ a
-answer_said Done = refl
-answer_said (Refused why offset) = rw (heard_number why)
+loaded_with_lem : (r : Result Machine Refused) (cells : List ℕ) → loaded (load_with r cells) ≡ r
+loaded_with_lem (Ok m) cells = refl
+loaded_with_lem (Err r) cells = rw (heard_number r.why)
 
-loaded_with_lem : (r : Loaded) (cells : List ℕ) → loaded (load_with r cells) ≡ r
-loaded_with_lem r cells = rw (answer_said r.answer)
+cells_with : (r : Result Machine Refused) (cells : List ℕ) → (load_with r cells).cells ≡ cells
+cells_with (Ok m) cells = refl
+cells_with (Err r) cells = refl
 
-abbrev became : Option Refusal → ℕ → Saved
-became none size = save.Written size
-became (some why) size = save.Unsaved why
+abbrev became : Option Refusal → ℕ → Result ℕ Refusal
+became none size = Ok size
+became (some why) size = Err why
 
-saved_with : (r : Saved) (room : List ℕ) → became (heard (save_with r room).number) (save_with r room).length ≡ r
-saved_with (save.Written n) room = refl
-saved_with (save.Unsaved why) room = rw (heard_number why)
+saved_with : (r : Result ℕ Refusal) (room : List ℕ) → became (heard (save_with r room).number) (save_with r room).length ≡ r
+saved_with (Ok n) room = refl
+saved_with (Err why) room = rw (heard_number why)
 
-room_with : (r : Saved) (room : List ℕ) → (save_with r room).room ≡ room
-room_with (save.Written n) room = refl
-room_with (save.Unsaved why) room = refl
+room_with : (r : Result ℕ Refusal) (room : List ℕ) → (save_with r room).room ≡ room
+room_with (Ok n) room = refl
+room_with (Err why) room = refl
 
-pub load_once : (bytes host before : List ℕ) (r t : Loaded) (cells cells' : List ℕ) → load_with r cells ≡ job.load_of bytes host before → load_with t cells' ≡ job.load_of bytes host before
+pub load_once : (bytes host before : List ℕ) (r t : Result Machine Refused) (cells cells' : List ℕ) → load_with r cells ≡ job.load_of bytes host before → load_with t cells' ≡ job.load_of bytes host before
     → (r ≡ t) × (cells ≡ cells')
 load_once bytes host before r t cells cells' p q =
     let e = unique p q in
-    (sym (loaded_with_lem r cells) ∙ ap loaded e ∙ loaded_with_lem t cells', ap (λ (l : job.Load). l.cells) e)
+    (sym (loaded_with_lem r cells) ∙ ap loaded e ∙ loaded_with_lem t cells', sym (cells_with r cells) ∙ ap (λ (l : job.Load). l.cells) e ∙ cells_with t cells')
 
-pub save_once : (m : Machine) (cells before : List ℕ) (r t : Saved) (room room' : List ℕ) → save_with r room ≡ saving.save_of m cells before
+pub save_once : (m : Machine) (cells before : List ℕ) (r t : Result ℕ Refusal) (room room' : List ℕ) → save_with r room ≡ saving.save_of m cells before
     → save_with t room' ≡ saving.save_of m cells before → (r ≡ t) × (room ≡ room')
 save_once m cells before r t room room' p q =
     let e = unique p q in

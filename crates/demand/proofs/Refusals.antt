@@ -14,8 +14,8 @@ use Rattle.cell.specs.declared.Operands.{Operands}
 use Rattle.cell.specs.declared.Operands.TheVariants as operands
 use Rattle.cell.specs.Cell as cell
 use Rattle.line.specs.Line as line
-use Rattle.reader.specs.declared.ReadLine.{ReadLine}
-use Rattle.reader.specs.declared.ReadLine.TheVariants.{Cell, NoLine}
+use Rattle.std.specs.Prelude.{Result, Ok, Err}
+use Rattle.reader.specs.declared.NoLine.{NoLine}
 use Rattle.reader.specs.Answers.{read_reply}
 use Rattle.machine.proofs.Tests.{picked}
 use Rattle.machine.specs.declared.Machine.{Machine}
@@ -39,10 +39,10 @@ unfolding line.print_of listed
 print_said c room = picked (λ (s : line.Shown). listed print_says s.number ≡ true) (leb (length (line.line_of c)) (length room)) _ _ (λ t. refl) (λ t. refl)
 
 -- what reading says is by its contract an answer's number
-pub read_said : (r : ReadLine) → listed read_says (read_reply r).number ≡ true
+pub read_said : (r : Result ℕ NoLine) → listed read_says (read_reply r).number ≡ true
 unfolding listed
-read_said (Cell c) = refl
-read_said NoLine = refl
+read_said (Ok c) = refl
+read_said (Err none-there) = refl
 
 -- a record's refusal
 abbrev Fine : Fate → Type 0

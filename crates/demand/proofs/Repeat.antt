@@ -118,10 +118,10 @@ module _ (kind : Kind) where
 
   -- the end of a run is determined by the courses
   going_stopped : {c : Course} {x : Said} → c ≡ stopped x → c ≡ going → ⊥
-  going_stopped p q = let z : ◌≡◌ {A = ℕ} 0 1 = cc in omega arith
+  going_stopped p q = cc
 
   going_refused : {c : Course} {x : Said} → c ≡ refused x → c ≡ going → ⊥
-  going_refused p q = let z : ◌≡◌ {A = ℕ} 0 1 = cc in omega arith
+  going_refused p q = cc
 
   ends_once : {n f g : ℕ} {s : State} {x y : Said} → Ends kind n s f x → Ends kind n s g y → (f ≡ g) × (x ≡ y)
   ends_once {s = s} (spent a) (spent b) = (refl, refl)
@@ -134,12 +134,10 @@ module _ (kind : Kind) where
       (ap suc e, cc)
   ends_once {s = s} (last k x h a c) (next l y i b d) =
       let e = first (λ j. course_after kind j s ≡ going) k l a b (going_stopped c) (going_refused d) in
-      let z : ◌≡◌ {A = ℕ} 0 1 = cc in
-      absurd (omega arith)
+      absurd (cc)
   ends_once {s = s} (next k x h a c) (last l y i b d) =
       let e = first (λ j. course_after kind j s ≡ going) k l a b (going_refused c) (going_stopped d) in
-      let z : ◌≡◌ {A = ℕ} 0 1 = cc in
-      absurd (omega arith)
+      absurd (cc)
   ends_once {s = s} (next k x h a c) (next l y i b d) =
       let e = first (λ j. course_after kind j s ≡ going) k l a b (going_refused c) (going_refused d) in
       (e, cc)

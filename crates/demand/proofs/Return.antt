@@ -89,7 +89,7 @@ back_said n s = call_said back_stops (back_begins s) back_from n s (back_begins_
 
 -- the end of a going back is determined by depths and entries
 not_whole : {t : Bool} → t ≡ true → t ≡ false → ⊥
-not_whole p q = let z : ◌≡◌ {A = ℕ} 0 1 = cc in omega arith
+not_whole p q = cc
 
 falls_once : {n f g : ℕ} {s : State} {x y : Said} → Falls n s f x → Falls n s g y → (f ≡ g) × (x ≡ y)
 falls_once {s = s} (spent a) (spent b) = (refl, refl)

@@ -5,7 +5,6 @@ use mathlib.Core.Path.{◌≡◌, refl}
 use mathlib.Core.Bool.{Bool, true, false, ◌&&◌, ◌||◌}
 use mathlib.Core.Option.{Option, none, some, or_else}
 use mathlib.Core.List.{List, [], ◌∷◌}
-use native.Mathlib.Omega.{arith}
 use lib.Dec.{leb, ltb, eqb}
 use lib.ListN.{length}
 use borrow.Author.Tests.{eqb-true, leb-true, leb-false}
@@ -21,8 +20,9 @@ use Rattle.effect.specs.Refusal.{faults, wild, refused_by}
 use Rattle.machine.proofs.Tests.{picked}
 use Rattle.journal.specs.Journal.{ended_of, regs_after}
 use Rattle.machine.specs.Stops.{Said, plainly}
-use Rattle.profile.specs.declared.Rule.{Rule}
-use Rattle.profile.specs.declared.Rule.TheVariants.{ForwardOnly, BadLength, BadCell}
+use Rattle.std.specs.Prelude.{Result, Ok, Err, ⊤}
+use Rattle.profile.specs.declared.BadRule.{BadRule}
+use Rattle.profile.specs.declared.BadRule.TheVariants.{Length, Cell}
 use Rattle.profile.specs.Profile.{rule_of}
 use Rattle.profile.specs.Answers.{barred_by}
 use Rattle.step.specs.Step.{Course, going, stopped, refused, code_of, outside, stores_into, guard_of, traps_of, answered, course_of, refusal_of, effect_in, action_in, moved, step_of}
@@ -108,7 +108,7 @@ within (y ∷ l) r = listed r y && within l r
 
 both : (a b : Bool) → (a && b) ≡ true → (a ≡ true) × (b ≡ true)
 both true b h = (refl, h)
-both false b h = let z : ◌≡◌ {A = ℕ} 0 1 = cc in absurd (omega arith)
+both false b h = absurd (cc)
 
 -- the stops that hang on the kind of run: PC outside the cells or the code, a store into the code
 abbrev pub kind_stops : Kind → List ℕ
@@ -155,7 +155,7 @@ same_number x y r h e = rw (eqb-true x y e) h
 
 pub widen : (l r : List ℕ) → within l r ≡ true → (k : ℕ) → listed l k ≡ true → listed r k ≡ true
 unfolding listed
-widen [] r w k h = let z : ◌≡◌ {A = ℕ} 0 1 = cc in absurd (omega arith)
+widen [] r w k h = absurd (cc)
 widen (y ∷ l) r w k h = let b = both (listed r y) (within l r) w in either_way (eqb k y) (same_number k y r b.0) (widen l r b.1 k) h
 
 -- no step names 0
@@ -163,12 +163,10 @@ pub not_zero : (kind : Kind) (x : Said) → listed (step_stops kind) x.number �
 unfolding listed
 not_zero Plain x h e =
     let z : false ≡ true = rw e at h in
-    let y : ◌≡◌ {A = ℕ} 0 1 = cc in
-    omega arith
+    cc
 not_zero (Profile l) x h e =
     let z : false ≡ true = rw e at h in
-    let y : ◌≡◌ {A = ℕ} 0 1 = cc in
-    omega arith
+    cc
 
 -- what keeps a call from beginning
 by_number : (l : List ℕ) (o : Option ℕ) → Named l o → NamedBy l (said_by o)
@@ -183,10 +181,10 @@ check_named l m t j depth a b c =
     picked (Named l) (bad_settings t) _ _ (λ z. b) (λ z.
     picked (Named l) (ltb j depth) _ _ (λ z. c) (λ z. tt))))
 
-rule_named : (l : List ℕ) → listed l 60 ≡ true → (r : Rule) → NamedBy l (barred_by r)
-rule_named l h ForwardOnly = tt
-rule_named l h BadLength = h
-rule_named l h (BadCell place flaw) = h
+rule_named : (l : List ℕ) → listed l 60 ≡ true → (r : Result ⊤ BadRule) → NamedBy l (barred_by r)
+rule_named l h (Ok done) = tt
+rule_named l h (Err Length) = h
+rule_named l h (Err (Cell place flaw)) = h
 
 barred_named : (r : List ℕ) (kind : Kind) (cells : List ℕ) → ((l : ℕ) → kind ≡ Profile l → listed r 60 ≡ true) → NamedBy r (barred kind cells)
 barred_named r Plain cells f = tt

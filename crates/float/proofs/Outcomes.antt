@@ -2,11 +2,10 @@
 -- Assumes nothing.
 use Prim.Native.Nat.{ℕ}
 use mathlib.Core.Bool.{Bool, true, false, not, ◌&&◌, ◌||◌}
-use mathlib.Core.Path.{◌≡◌, refl, sym, ap, ◌∙◌, subst}
+use mathlib.Core.Path.{◌≡◌, refl, sym, subst}
 use lib.Dec.{T}
 use lib.Ieee as Ieee
 use lib.Ieee.{Float}
-use lib.Ieee.Compare.{differs_from_itself, nan_differs}
 use Rattle.binary.specs.Value.{Value, nan, infinity, finite, binary32, value}
 use Rattle.word.specs.Word.{overflow, when}
 use Rattle.float.specs.Arithmetic.{Answer, float, by_zero, invalid, plus, negated, times, over, sum, difference, product, quotient, flags_of, is_finite}
@@ -17,31 +16,30 @@ use Rattle.float.proofs.Read.{nan_is}
 
 -- ---- a float that is a NaN, and one that is none
 
-pub told_of_nan : (x : Float) → Ieee.ne x x ≡ true → invalid ≡ told x
-unfolding told
-told_of_nan x h = sym (ap told (differs_from_itself x (subst T (sym h) tt)))
+pub told_of_nan : (x : Float) → Ieee.is_nan x ≡ true → invalid ≡ told x
+unfolding told Ieee.is_nan
+told_of_nan Ieee.nan h = refl
+told_of_nan (Ieee.inf s) h = absurd (subst T (sym h) tt)
+told_of_nan (Ieee.fin s m e) h = absurd (subst T (sym h) tt)
 
-pub told_of_value : (x : Float) → Ieee.ne x x ≡ false → told x ≡ float (Ieee.to_bits Ieee.binary32 x)
-unfolding told
-told_of_value Ieee.nan h = absurd (subst T (sym nan_differs ∙ h) tt)
+pub told_of_value : (x : Float) → Ieee.is_nan x ≡ false → told x ≡ float (Ieee.to_bits Ieee.binary32 x)
+unfolding told Ieee.is_nan
+told_of_value Ieee.nan h = absurd (subst T h tt)
 told_of_value (Ieee.inf s) h = refl
 told_of_value (Ieee.fin s m e) h = refl
 
-no_nan : (x : Float) → Ieee.ne x x ≡ false → T (not (Ieee.is_nan x))
-unfolding Ieee.is_nan
-no_nan Ieee.nan h = absurd (subst T (sym nan_differs ∙ h) tt)
-no_nan (Ieee.inf s) h = tt
-no_nan (Ieee.fin s m e) h = tt
+no_nan : (x : Float) → Ieee.is_nan x ≡ false → T (not (Ieee.is_nan x))
+no_nan x h = subst (λ (b : Bool). T (not b)) (sym h) tt
 
 pub means_invalid : {r : Answer} → invalid ≡ r → Means Outcome.Invalid r
 unfolding Real meaning
 means_invalid e = record { real = tt; is = e }
 
-pub means_value : (x : Float) → Ieee.ne x x ≡ false → Means (Outcome.Value x) (told x)
+pub means_value : (x : Float) → Ieee.is_nan x ≡ false → Means (Outcome.Value x) (told x)
 unfolding Real meaning
 means_value x h = record { real = no_nan x h; is = sym (told_of_value x h) }
 
-pub means_by_zero : (x : Float) {r : Answer} → Ieee.ne x x ≡ false → by_zero (Ieee.to_bits Ieee.binary32 x) ≡ r → Means (Outcome.ByZero x) r
+pub means_by_zero : (x : Float) {r : Answer} → Ieee.is_nan x ≡ false → by_zero (Ieee.to_bits Ieee.binary32 x) ≡ r → Means (Outcome.ByZero x) r
 unfolding Real meaning
 means_by_zero x h e = record { real = no_nan x h; is = e }
 
@@ -51,24 +49,6 @@ pub flags_float : (x y b : ℕ) {p q r : Bool} → is_finite (value binary32 x) 
     → when (p && q && not r) overflow ≡ flags_of x y (float b)
 unfolding flags_of
 flags_float x y b e f g = cc
-
-pub flags_left : (x y b : ℕ) → is_finite (value binary32 x) ≡ false → 0 ≡ flags_of x y (float b)
-flags_left x y b e = flags_float x y b e refl refl
-
-pub flags_right : (x y b : ℕ) → is_finite (value binary32 y) ≡ false → 0 ≡ flags_of x y (float b)
-flags_right x y b e = go (is_finite (value binary32 x)) refl
-  where
-    go : (p : Bool) → is_finite (value binary32 x) ≡ p → 0 ≡ flags_of x y (float b)
-    go true h = flags_float x y b h e refl
-    go false h = flags_float x y b h e refl
-
-pub flags_finite : (x y b : ℕ) → is_finite (value binary32 b) ≡ true → 0 ≡ flags_of x y (float b)
-flags_finite x y b e = go (is_finite (value binary32 x)) (is_finite (value binary32 y)) refl refl
-  where
-    go : (p q : Bool) → is_finite (value binary32 x) ≡ p → is_finite (value binary32 y) ≡ q → 0 ≡ flags_of x y (float b)
-    go true true h k = flags_float x y b h k e
-    go true false h k = flags_float x y b h k e
-    go false q h k = flags_float x y b h k e
 
 -- ---- operands, by the test of both
 

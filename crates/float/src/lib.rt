@@ -28,6 +28,7 @@ pub enum FloatOp {
 }
 
 // What an operation writes, from its operands x and y.
+#[tactic(auto, unfolding(crate::specs::Float::calculated_of))]
 pub fn calculate(op: FloatOp, x: u32, y: u32) -> Written
     ensures { result ≡ calculated_of op x y }
 {

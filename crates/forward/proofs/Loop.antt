@@ -60,14 +60,13 @@ fixed_first kind budget most depth total limit guard cells₀ journal₀ e deep 
 }
 
 -- what each step moves
-pub record Running (kind : Kind) (budget total depth : ℕ) (host regs₀ : List ℕ) (s₀ : ℕ) (cells₀ journal₀ cells journal regs : List ℕ) (s at count told : ℕ) : Type 0 where
+pub record Running (kind : Kind) (budget total depth : ℕ) (host regs₀ : List ℕ) (s₀ : ℕ) (cells₀ journal₀ cells journal regs : List ℕ) (s at count : ℕ) : Type 0 where
   pub few : count ≤ total
   pub place : at ≡ start_of (depth + (total - count))
   pub same_cells : length cells ≡ length cells₀
   pub same_journal : length journal ≡ length journal₀
   pub long : length regs ≡ 256
   pub settled : InRange (unpacked_of s)
-  pub quiet : told ≡ 0
   pub rest : resume_of kind (budget - (total - count)) (total - count) regs s (depth + (total - count)) host cells journal ≡ run_from kind budget 0 (held_of regs₀ s₀ depth host cells₀ journal₀)
 
 same_capacity : (j k : List ℕ) → length j ≡ length k → capacity_of j ≡ capacity_of k
@@ -88,7 +87,7 @@ module _ (kind : Kind) (m : Machine) {s : ℕ} (e : s ≡ packed_of m.settings) 
   from_machine budget cells journal o h = rw (e, unpacked_packed m.settings range) at h
 
 module _ {kind : Kind} {budget total depth : ℕ} {host regs₀ : List ℕ} {s₀ : ℕ} {cells₀ journal₀ : List ℕ} where
-  pub set_out : length regs₀ ≡ 256 → InRange (unpacked_of s₀) → Running kind budget total depth host regs₀ s₀ cells₀ journal₀ cells₀ journal₀ regs₀ s₀ (8 * depth) total 0
+  pub set_out : length regs₀ ≡ 256 → InRange (unpacked_of s₀) → Running kind budget total depth host regs₀ s₀ cells₀ journal₀ cells₀ journal₀ regs₀ s₀ (8 * depth) total
   unfolding resume_of
   set_out long settled =
       let z : total - total ≡ 0 = omega arith in
@@ -99,12 +98,11 @@ module _ {kind : Kind} {budget total depth : ℕ} {host regs₀ : List ℕ} {s�
         same_journal = refl;
         long = long;
         settled = settled;
-        quiet = refl;
         rest = rw (z, add-zero, sub-zero);
       }
 
-  module _ {limit guard : ℕ} {cells journal regs : List ℕ} {s at count told : ℕ} (fixed : Fixed kind budget total depth limit guard cells₀ journal₀)
-      (u : Running kind budget total depth host regs₀ s₀ cells₀ journal₀ cells journal regs s at count told) where
+  module _ {limit guard : ℕ} {cells journal regs : List ℕ} {s at count : ℕ} (fixed : Fixed kind budget total depth limit guard cells₀ journal₀)
+      (u : Running kind budget total depth host regs₀ s₀ cells₀ journal₀ cells journal regs s at count) where
     abbrev k : ℕ
     k = total - count
 
@@ -166,15 +164,15 @@ module _ {kind : Kind} {budget total depth : ℕ} {host regs₀ : List ℕ} {s�
       barred h o e = e ∙ refused_run kind n k held 61 (overwrites kind regs host cells journal s (depth + k) at cell u.settled u.long on in_code fetched space u.place (rw fixed.guarded at h)) ∙ to_whole
 
       module _ {regs' cells' part' : List ℕ} {s' told' : ℕ} (free : stores_below guard (length cells) regs cell ≡ false)
-          (l : length regs ≡ 256 → left regs' cells' part' s' told' ≡ left_of told (action_of (decode_of cell)) (before regs s host cells (mid_of at (at + 8 - at) journal))) where
+          (l : left regs' cells' part' s' told' ≡ left_of 0 (action_of (decode_of cell)) (before regs s host cells (mid_of at (at + 8 - at) journal))) where
         abbrev journal' : List ℕ
         journal' = put_mid at (at + 8 - at) journal part'
 
         goes : Goes kind held cell journal' (left regs' cells' part' s' told')
-        goes = stepped kind regs host cells journal s (depth + k) at cell u.settled u.long on in_code fetched space u.place (rw fixed.guarded at free) (left regs' cells' part' s' told') (rw u.quiet at (l u.long))
+        goes = stepped kind regs host cells journal s (depth + k) at cell u.settled u.long on in_code fetched space u.place (rw fixed.guarded at free) (left regs' cells' part' s' told') l
 
         pub again : stopping told' s' ≡ false → length cells' ≡ length cells → length journal' ≡ length journal
-            → Running kind budget total depth host regs₀ s₀ cells₀ journal₀ cells' journal' regs' s' (at + 8) (count - 1) 0
+            → Running kind budget total depth host regs₀ s₀ cells₀ journal₀ cells' journal' regs' s' (at + 8) (count - 1)
         again h c j =
             let z : total - (count - 1) ≡ k + 1 = omega (arith, u.few) in
             let y : budget - (k + 1) ≡ n = omega arith in
@@ -186,7 +184,6 @@ module _ {kind : Kind} {budget total depth : ℕ} {host regs₀ : List ℕ} {s�
               same_journal = j ∙ u.same_journal;
               long = goes.long;
               settled = goes.settled;
-              quiet = refl;
               rest = rw (z, y, x) (goes_on kind n k told' regs' s' cell (depth + k) host cells' journal' held goes.step h ∙ to_whole);
             }
 

@@ -1,4 +1,5 @@
-// What a run leaves beside registers, cells and journal: the stops are told apart once, after the loop, and flag 256 is set there.
+// What a run leaves beside registers, cells and journal: the stops are told apart once, after the loop, and flag 256 is set there. Settings,
+// depth and steps done go together in these calls alone: a struct made for each would be no plainer.
 ghost use Rattle.std.specs.Prelude.{◌≡◌, true, List, ◌⊎◌, ℕ, ◌+◌, ◌-◌, ◌≤◌, ◌<◌, length};
 ghost use Rattle.machine.specs.State.{State, capacity_of, pc_of};
 ghost use Rattle.machine.specs.Stops.{said_of};
@@ -67,6 +68,7 @@ pub(crate) fn finish(
 {
     let pc = regs[255];
     Upshot {
+        // && would say no more, and ask a case more of the proof
         settings: settled(s, (0 < done) & (Address::FLAGS <= pc)),
         depth: depth + done,
         stop: stop_of(pc, kind, limit, done as u64, budget),

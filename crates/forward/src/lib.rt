@@ -9,12 +9,16 @@ ghost use Rattle.machine.specs.declared.Kind.TheVariants.{Plain, Profile};
 ghost use Rattle.packed.specs.Packed.{unpacked_of};
 ghost use Rattle.call.specs.Calls.{run_from, run_of};
 ghost use Rattle.call.specs.Answers.{out_of};
+ghost use Rattle.cell.specs.Cell.{decode_of};
+ghost use Rattle.effect.specs.Action.{action_of};
+ghost use Rattle.carried.specs.Left.{left, left_of, before};
 ghost use Rattle.forward.specs.Inner.{out_by, held_of};
 
 mod after;
 
 use after::{Upshot, finish, halt, refused};
-use call::{Checked, Ran, check_run, lesser};
+use call::{Ran, check_run, lesser};
+use carried::Step;
 use guard::{guard_of, limit_of, writes_code};
 use instruction::carry_out;
 use journal::Entry;
@@ -22,94 +26,98 @@ use machine::{Kind, Machine, Stop, capacity, index_of};
 use packed::pack;
 use stopped::stops;
 
+// What a run is asked for: its kind, how many steps, and how many entries the journal has room for.
+#[derive(Clone, Copy)]
+struct Plan {
+    kind: Kind,
+    budget: u64,
+    most: u32,
+}
+
+// An instruction carried out over a part of the journal, by a step that has told nothing yet: the settings that it leaves, and what it told.
+fn carry(
+    part: &mut [u32],
+    regs: &mut [u32; 256],
+    cells: &mut [u32],
+    host: &[u32; 5],
+    settings: u32,
+    cell: u32,
+) -> (u32, u32)
+    ensures { left regs.new cells.new part.new result.0 result.1
+        ≡ left_of 0 (action_of (decode_of cell)) (before regs.old settings host.now cells.old part.old) }
+{
+    let mut step = Step {
+        part,
+        regs,
+        settings,
+        told: 0,
+    };
+    carry_out(&mut step, cells, host, cell);
+    (step.settings, step.told)
+}
+
 // As many steps as the budget says, or up to a stop, over lent registers and settings that are one word. Flag 256 is set once, at the end.
 fn run_over(
     regs: &mut [u32; 256],
     host: &[u32; 5],
     cells: &mut [u32],
     journal: &mut [u32],
-    kind: Kind,
+    plan: Plan,
     settings: u32,
     depth: u32,
-    budget: u64,
-    most: u32,
 ) -> Upshot
-    requires { (length regs.old ≡ 256) × InRange (unpacked_of settings) × (depth ≤ most) × (most ≡ capacity_of journal.old) × (length cells.old ≤ most_cells) }
+    requires { InRange (unpacked_of settings) × (depth ≤ plan.most) × (plan.most ≡ capacity_of journal.old) × (length cells.old ≤ most_cells) }
     ensures { out_by result regs.new host.now cells.new journal.new
-        ≡ run_from kind budget 0 (held_of regs.old settings depth host.now cells.old journal.old) }
+        ≡ run_from plan.kind plan.budget 0 (held_of regs.old settings depth host.now cells.old journal.old) }
 {
+    let kind = plan.kind;
+    let budget = plan.budget;
     let mut s = settings;
     let limit = limit_of(kind, cells.len());
     let guard = guard_of(kind);
-    let total = lesser(budget, most - depth);
+    let total = lesser(budget, plan.most - depth);
     let mut at = Entry::WORDS * (depth as usize);
     let mut left = total;
-    let mut told = 0;
+    // as a for over 0..total a step costs 1.0 more
     while 0 < left {
+        let done = total - left;
         let p = index_of(regs[255]);
         if limit <= p {
-            return finish(regs, kind, limit, s, depth, total - left, budget);
+            return finish(regs, kind, limit, s, depth, done, budget);
         }
         let cell = cells[p];
         if writes_code(regs, cells.len(), cell, guard) {
-            return refused(s, depth, total - left, Stop::Overwrite);
+            return refused(s, depth, done, Stop::Overwrite);
         }
-        s = carry_out(
-            &mut journal[at..at + Entry::WORDS],
-            regs,
-            cells,
-            host,
-            s,
-            cell,
-            &mut told,
-        );
-        if 0 < told {
-            if stops(s, told) {
-                return halt(regs, s, depth, total - left, told, cell);
-            }
-            told = 0;
+        let part = &mut journal[at..at + Entry::WORDS];
+        let (settings, told) = carry(part, regs, cells, host, s, cell);
+        s = settings;
+        if 0 < told && stops(s, told) {
+            return halt(regs, s, depth, done, told, cell);
         }
-        at = at + Entry::WORDS;
-        left = left - 1;
+        at += Entry::WORDS;
+        left -= 1;
     }
     finish(regs, kind, limit, s, depth, total, budget)
 }
 
 // A run that can begin: the host's words are lent to it and stay.
-fn run_on(
-    m: Machine,
-    cells: &mut [u32],
-    journal: &mut [u32],
-    kind: Kind,
-    budget: u64,
-    most: u32,
-) -> Ran
-    requires { (m.depth ≤ most) × (most ≡ capacity_of journal.old) × InRange m.settings × (length cells.old ≤ most_cells) }
-    ensures { out_of result cells.new journal.new ≡ run_from kind budget 0 (state_of m cells.old journal.old) }
+fn run_on(m: Machine, cells: &mut [u32], journal: &mut [u32], plan: Plan) -> Ran
+    requires { (m.depth ≤ plan.most) × (plan.most ≡ capacity_of journal.old) × InRange m.settings × (length cells.old ≤ most_cells) }
+    ensures { out_of result cells.new journal.new ≡ run_from plan.kind plan.budget 0 (state_of m cells.old journal.old) }
 {
-    let mut regs = m.regs;
+    let mut m = m;
     let host = m.host;
-    let upshot = run_over(
-        &mut regs,
-        &host,
-        cells,
-        journal,
-        kind,
-        pack(m.settings),
-        m.depth,
-        budget,
-        most,
-    );
-    let settings = upshot.settings;
-    let stop = upshot.stop;
+    let settings = pack(m.settings);
+    let depth = m.depth;
+    let upshot = run_over(&mut m.regs, &host, cells, journal, plan, settings, depth);
     Ran {
         machine: Machine {
-            regs,
-            settings,
+            settings: upshot.settings,
             depth: upshot.depth,
-            host,
+            ..m
         },
-        stop,
+        stop: upshot.stop,
         count: upshot.count,
     }
 }
@@ -119,10 +127,9 @@ fn run_by(m: Machine, cells: &mut [u32], journal: &mut [u32], kind: Kind, budget
     ensures { out_of result cells.new journal.new ≡ run_of kind budget (state_of m cells.old journal.old) }
 {
     let most = capacity(journal.len());
-    let checked = check_run(kind, cells, m.settings, most, m.depth);
-    match checked {
-        Checked::Fine => run_on(m, cells, journal, kind, budget, most),
-        Checked::Bad(stop) => Ran {
+    match check_run(kind, cells, m.settings, most, m.depth) {
+        Ok(()) => run_on(m, cells, journal, Plan { kind, budget, most }),
+        Err(stop) => Ran {
             machine: m,
             stop,
             count: 0,

@@ -1,14 +1,15 @@
 -- A store into a profile's code, as the code asks for it and as the definition does.
 -- Assumes nothing.
-use Prim.Native.Nat.{ℕ}
+use Prim.Native.Nat.{ℕ, ◌≤◌, ◌<◌}
 use mathlib.Core.Path.{◌≡◌, refl}
 use mathlib.Core.Bool.{Bool, true, false, cond, not, ◌&&◌, ◌||◌}
 use mathlib.Core.List.{List}
+use mathlib.Core.Logic.{◌⊎◌, inl, inr}
 use mathlib.Core.Option.{Option, none, some, or_else}
 use native.Mathlib.Omega.{arith}
 use lib.Dec.{leb, ltb, eqb}
 use lib.ListN.{length}
-use borrow.Author.Tests.{eq-eqb, eqb-true, eqb-false, le-leb, lt-leb, leb-true, leb-false, le-ltb, lt-ltb}
+use borrow.Author.Tests.{eq-eqb, ne_eqb, eqb-true, le-leb, lt-leb, le-ltb, lt-ltb}
 use Rattle.cell.specs.Cell.{opcode_of, m_of, l_of, decode_of}
 use Rattle.cell.proofs.Tests.{never}
 use Rattle.machine.specs.declared.Kind.{Kind}
@@ -53,27 +54,37 @@ pub unguarded : (size : ℕ) (regs : List ℕ) (cell : ℕ) → stores_below 0 s
 unfolding stores_below
 unguarded size regs cell = rw (le-ltb (operand_of regs (m_of cell)) 0 (omega arith)) (nothing (eqb (opcode_of cell) 1) (leb 1 (operand_of regs (m_of cell))) _)
 
--- the tests of a store, as the code asks them
-below_by : (x guard : ℕ) (e f : Bool) → eqb x 0 ≡ e → leb guard x ≡ f → (leb 1 x && ltb x guard) ≡ not (e || f)
-below_by x guard true f p q = rw (lt-leb 1 x (omega (arith, eqb-true x 0 p)))
-below_by x guard false true p q = rw (le-ltb x guard (leb-true guard x q)) (and_false (leb 1 x))
-below_by x guard false false p q =
-    let nonzero : x ≡ 0 → ⊥ = eqb-false x 0 p in
-    rw (le-leb 1 x (omega arith), lt-ltb x guard (leb-false guard x q))
-
-pub ldst_below : (guard size : ℕ) (regs : List ℕ) (cell : ℕ) → opcode_of cell ≡ 1
-    → stores_below guard size regs cell
-    ≡ (not (eqb (operand_of regs (m_of cell)) 0 || leb guard (operand_of regs (m_of cell))) && not (faults size (operand_of regs (l_of cell)) || faults size (operand_of regs (m_of cell))))
+-- nor does another opcode store, or one whose pointer is 0 or past the guard
+pub other_opcode : (guard size : ℕ) (regs : List ℕ) (cell : ℕ) → (opcode_of cell ≡ 1 → ⊥) → stores_below guard size regs cell ≡ false
 unfolding stores_below
-ldst_below guard size regs cell e = let x = operand_of regs (m_of cell) in rw (eq-eqb _ _ e, below_by x guard (eqb x 0) (leb guard x) refl refl)
+other_opcode guard size regs cell h = rw (ne_eqb _ _ h)
+
+neither : (a b c d : Bool) → (b && c) ≡ false → (a && (b && c) && d) ≡ false
+neither true b c d h = rw h
+neither false b c d h = refl
+
+pub not_below : (guard size : ℕ) (regs : List ℕ) (cell : ℕ) → (operand_of regs (m_of cell) ≡ 0) ⊎ (guard ≤ operand_of regs (m_of cell)) → stores_below guard size regs cell ≡ false
+unfolding stores_below
+not_below guard size regs cell h = neither (eqb (opcode_of cell) 1) (leb 1 (operand_of regs (m_of cell))) (ltb (operand_of regs (m_of cell)) guard) _ (go h)
+  where
+    go : (operand_of regs (m_of cell) ≡ 0) ⊎ (guard ≤ operand_of regs (m_of cell)) → (leb 1 (operand_of regs (m_of cell)) && ltb (operand_of regs (m_of cell)) guard) ≡ false
+    go (inl z) = rw (lt-leb 1 (operand_of regs (m_of cell)) (omega arith))
+    go (inr z) = rw (le-ltb (operand_of regs (m_of cell)) guard z) (and_false (leb 1 (operand_of regs (m_of cell))))
+
+-- the tests of a store, as the code asks them
+pub below : (guard size : ℕ) (regs : List ℕ) (cell : ℕ) → opcode_of cell ≡ 1 → (operand_of regs (m_of cell) ≡ 0 → ⊥) → operand_of regs (m_of cell) < guard
+    → stores_below guard size regs cell ≡ not (faults size (operand_of regs (l_of cell)) || faults size (operand_of regs (m_of cell)))
+unfolding stores_below
+below guard size regs cell e nonzero near =
+    rw (eq-eqb _ _ e, le-leb 1 (operand_of regs (m_of cell)) (omega arith), lt-ltb (operand_of regs (m_of cell)) guard near)
 
 -- what the cell asks for, in a state
 module _ (s : State) (cell : ℕ) where
   abbrev action : Action
   action = action_of (decode_of cell)
 
-  abbrev below : ℕ → Bool
-  below l = leb 1 (reg s (m_of cell)) && ltb (reg s (m_of cell)) l
+  abbrev near : ℕ → Bool
+  near l = leb 1 (reg s (m_of cell)) && ltb (reg s (m_of cell)) l
 
   abbrev fault : Bool
   fault = faults (length s.cells) (reg s (l_of cell)) || faults (length s.cells) (reg s (m_of cell))
@@ -97,9 +108,9 @@ module _ (s : State) (cell : ℕ) where
     illegal = refl;
   })
 
-  profile_passes : (l : ℕ) (t : Bool) → eqb (opcode_of cell) 1 ≡ t → (t && below l && not fault) ≡ false → stop (Profile l) ≡ refused_by action s
+  profile_passes : (l : ℕ) (t : Bool) → eqb (opcode_of cell) 1 ≡ t → (t && near l && not fault) ≡ false → stop (Profile l) ≡ refused_by action s
   unfolding refused_by stores_into
-  profile_passes l true e h = rw (ldst cell (eqb-true _ _ e)) (lets_pass (below l) fault h)
+  profile_passes l true e h = rw (ldst cell (eqb-true _ _ e)) (lets_pass (near l) fault h)
   profile_passes l false e h = rw (others l e) (or_none _)
 
   -- a cell that the guard lets pass is refused by its own stop, if any
@@ -108,9 +119,9 @@ module _ (s : State) (cell : ℕ) where
   passes Plain h = or_none _
   passes (Profile l) h = profile_passes l (eqb (opcode_of cell) 1) refl h
 
-  profile_stops : (l : ℕ) (t : Bool) → eqb (opcode_of cell) 1 ≡ t → (t && below l && not fault) ≡ true → stop (Profile l) ≡ some 61
+  profile_stops : (l : ℕ) (t : Bool) → eqb (opcode_of cell) 1 ≡ t → (t && near l && not fault) ≡ true → stop (Profile l) ≡ some 61
   unfolding refused_by stores_into
-  profile_stops l true e h = rw (ldst cell (eqb-true _ _ e)) (stops_it (below l) fault h)
+  profile_stops l true e h = rw (ldst cell (eqb-true _ _ e)) (stops_it (near l) fault h)
   profile_stops l false e h = never (cc)
 
   -- .. and one that it does not is refused by 61

@@ -16,12 +16,7 @@ pub fn limit_of(kind: Kind, size: usize) -> usize
 {
     match kind {
         Kind::Plain => size,
-        Kind::Profile(l) => {
-            if l < size {
-                return l;
-            }
-            size
-        }
+        Kind::Profile(l) => l.min(size),
     }
 }
 
@@ -39,16 +34,13 @@ pub fn guard_of(kind: Kind) -> usize
 pub fn writes_code(regs: &[u32; 256], size: usize, cell: u32, guard: usize) -> bool
     ensures { result ≡ stores_below guard size regs.now cell }
 {
-    if guard == 0 {
-        return false;
-    }
-    if opcode_of(cell) != 1 {
+    if guard == 0 || opcode_of(cell) != 1 {
         return false;
     }
     let x = operand(regs, m_of(cell));
-    if (x == 0) | (guard <= x as usize) {
+    if x == 0 || guard <= x as usize {
         return false;
     }
     let y = operand(regs, l_of(cell));
-    !(is_fault(size, y) | is_fault(size, x))
+    !(is_fault(size, y) || is_fault(size, x))
 }

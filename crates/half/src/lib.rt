@@ -12,14 +12,16 @@ pub enum Extension {
     Ex,
 }
 
-// The sign bit copied upward, in a form that becomes one instruction.
+// The sign bit copied upward.
+#[tactic(auto, unfolding(crate::specs::Half::se_of))]
 pub fn se(x: u16) -> u32
     ensures { result ≡ se_of x }
 {
-    std::num::wrapping_sub_u32((x as u32 + 32768) % 65536, 32768)
+    (x.cast_signed() as i32).cast_unsigned()
 }
 
 // The single float of a half float's value; every NaN becomes the same one.
+#[tactic(auto, unfolding(crate::specs::Half::ex_of))]
 pub fn ex(x: u16) -> u32
     ensures { result ≡ ex_of x }
 {
@@ -27,22 +29,16 @@ pub fn ex(x: u16) -> u32
     let sign = half / 32768 * 2147483648;
     let exponent = half / 1024 % 32;
     let fraction = half % 1024;
-    if exponent == 31 {
-        if fraction == 0 {
-            sign + 255 * 8388608
-        } else {
-            0x7FC0_0000
-        }
-    } else if exponent == 0 {
-        if fraction == 0 {
-            sign
-        } else {
+    match (exponent, fraction) {
+        (31, 0) => sign + 255 * 8388608,
+        (31, _) => 0x7FC0_0000,
+        (0, 0) => sign,
+        (0, _) => {
             // Of 32 bits, 21 stand above the place where a leading digit is not written.
-            let up = u32::leading_zeros(fraction) - 21;
+            let up = fraction.leading_zeros() - 21;
             sign + (113 - up) * 8388608 + (fraction << up) % 1024 * 8192
         }
-    } else {
-        sign + (112 + exponent) * 8388608 + fraction * 8192
+        _ => sign + (112 + exponent) * 8388608 + fraction * 8192,
     }
 }
 

@@ -4,61 +4,58 @@
 
 use call::Ran;
 use intake::read_full;
-use job::Answer;
-use saver::Saved;
+use machine::Stop;
+use refusal::Refusal;
 use std::io;
-use std::io::Write;
 
-// Released with the saved job's length, held with the stop's number, or refused with the refusal's number.
+// Why a job is not released: its run is held, with the stop's number, or it is refused, with the refusal's.
 #[derive(Drop)]
-enum Became {
-    Released(usize),
+enum Kept {
     Held(u64),
     Refused(u64),
 }
 
+impl From<Refusal> for Kept {
+    fn from(why: Refusal) -> Kept {
+        Kept::Refused(why.number())
+    }
+}
+
+impl From<job::Refused> for Kept {
+    fn from(refused: job::Refused) -> Kept {
+        Kept::from(refused.why)
+    }
+}
+
 // Whether a run ended with no flag but that of its end.
-fn clean(ran: Ran) -> bool {
-    let stop = ran.stop;
-    let m = ran.machine;
-    let settings = m.settings;
-    (stop.number() == 1) & (settings.flags == 256)
+fn clean(ran: &Ran) -> bool {
+    matches!(ran.stop, Stop::Ended) && ran.machine.settings.flags == 256
 }
 
-// A clean run is saved into the room. All that another one did is taken back: the cells hold the loaded job again.
-fn settle(ran: Ran, cells: &mut [u32], journal: &[u32], room: &mut [u8]) -> Became {
-    let stop = ran.stop;
-    if !clean(ran) {
+// A clean run is saved into the room, and the saved job's length answered. All that another one did is taken back: the cells hold the
+// loaded job again.
+fn settle(ran: Ran, cells: &mut [u32], journal: &[u32], room: &mut [u8]) -> Result<usize, Kept> {
+    if !clean(&ran) {
         backward::back(ran.machine, cells, journal, ran.count);
-        return Became::Held(stop.number());
+        return Err(Kept::Held(ran.stop.number()));
     }
-    let saved = saver::save(ran.machine, cells, room);
-    match saved {
-        Saved::Written(length) => Became::Released(length),
-        Saved::Unsaved(why) => Became::Refused(why.number()),
-    }
+    Ok(saver::save(ran.machine, cells, room)?)
 }
 
-// Loads a job of at most 32,768 bytes into the cells and runs it, 400 steps at most. This host gives no date: its five words are zeros.
-fn scrub(job: &[u8], cells: &mut [u32], journal: &mut [u32], room: &mut [u8]) -> Became {
+// Loads a job of at most 32,768 bytes into the cells and runs it, 400 steps at most. A longer one is refused with 50, a number of the host's
+// own. This host gives no date: its five words are zeros.
+fn scrub(
+    job: &[u8],
+    cells: &mut [u32],
+    journal: &mut [u32],
+    room: &mut [u8],
+) -> Result<usize, Kept> {
     if 32768 < job.len() {
-        return Became::Refused(50);
+        return Err(Kept::Refused(50));
     }
-    let loaded = job::load(job, [0u32; 5], cells);
-    let answer = loaded.answer;
-    match answer {
-        Answer::Refused { why, offset: _ } => Became::Refused(why.number()),
-        Answer::Done => {
-            let ran = forward::run(loaded.machine, cells, journal, 400);
-            settle(ran, cells, journal, room)
-        }
-    }
-}
-
-// Writes a name and a number as a line.
-fn write_line<W: Write>(out: &mut W, name: &[u8], number: u64) -> io::Result<()> {
-    out.write_all(name)?;
-    writeln!(out, "{number}")
+    let machine = job::load(job, [0u32; 5], cells)?;
+    let ran = forward::run(machine, cells, journal, 400);
+    settle(ran, cells, journal, room)
 }
 
 // What the host lends: 4,096 cells, a journal of 8 words for each of 400 steps, and room for any job that is saved from them. The input has
@@ -69,11 +66,9 @@ fn main(rt: HostRuntime) -> io::Result<()> {
     let mut journal = [0u32; 3200];
     let mut room = [0u8; 32768];
     let read = read_full(&mut rt.stdin(), &mut input)?;
-    let became = scrub(&input[..read], &mut cells, &mut journal, &mut room);
-    let mut out = rt.stdout();
-    match became {
-        Became::Released(length) => write_line(&mut out, b"released ", length as u64),
-        Became::Held(stop) => write_line(&mut out, b"held ", stop),
-        Became::Refused(number) => write_line(&mut out, b"refused ", number),
+    match scrub(&input[..read], &mut cells, &mut journal, &mut room) {
+        Ok(length) => println!(rt; "released {length}"),
+        Err(Kept::Held(stop)) => println!(rt; "held {stop}"),
+        Err(Kept::Refused(number)) => println!(rt; "refused {number}"),
     }
 }

@@ -1,2 +1,4 @@
 pub mod Lengths
 pub mod Fronts
+pub mod Taking
+pub mod Once

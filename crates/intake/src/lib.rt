@@ -1,13 +1,16 @@
-// What the programs take in, how they read it, and the line that they write of a refused job.
+// What the programs take in: how they read it, the job that it loads, and the line that they write of a refused one.
 
 #![tactic(auto)]
 
-ghost use Rattle.std.specs.Prelude.{◌≡◌, ◌≤◌, ◌<◌, IfOk, length, take};
+ghost use Rattle.std.specs.Prelude.{◌≡◌, ◌≢◌, ◌≤◌, ◌<◌, IfOk, IfErr, length, take};
 ghost use Rattle.std.specs.Io.{ReadsAtMost};
 ghost use Rattle.std.specs.Io.KnownBytes.{Consumes, IsAtEnd};
 ghost use Rattle.text.specs.Text.{Added};
-ghost use Rattle.intake.specs.Intake.{refused_text};
+ghost use Rattle.refusal.specs.Refusal.{number_of};
+ghost use Rattle.intake.specs.Intake.{refused_text, taken_of};
+ghost use Rattle.intake.specs.Answers.{taken_with};
 
+use machine::Machine;
 use std::io;
 use std::io::Read;
 use text::{put, put_number};
@@ -20,6 +23,40 @@ impl Intake {
     pub const CELLS: usize = 4096;
 
     pub const INPUT: usize = 32768;
+}
+
+// Why an input is not taken in: the refusal's number, and the offset of its record. Numbers, since a line is promised of every number.
+#[derive(Clone, Copy, Debug, PartialEq, Eq)]
+pub struct Refused {
+    pub number: u64,
+    pub offset: u64,
+}
+
+impl From<job::Refused> for Refused {
+    ghost from_gives = { λ found told. told ≡ record { number = number_of found.why; offset = found.offset } };
+
+    fn from(found: job::Refused) -> Refused {
+        Refused {
+            number: found.why.number(),
+            offset: found.offset as u64,
+        }
+    }
+}
+
+// The machine that an input's job loads, into the cells, with zeros for the host's words. An input longer than the longest is refused
+// with 50, whatever it holds.
+#[tactic(auto, using(crate::proofs::Taking::taken_long))]
+pub fn take_in(input: &[u8], cells: &mut [u32]) -> Result<Machine, Refused>
+    ensures taken { taken_with result cells.new ≡ taken_of input.now cells.old }
+    ensures numbered { IfErr result (λ refused. refused.number ≢ 0) }
+{
+    if Intake::INPUT < input.len() {
+        return Err(Refused {
+            number: 50,
+            offset: Intake::INPUT as u64,
+        });
+    }
+    Ok(job::load(input, [0u32; 5], cells)?)
 }
 
 // Puts the line of a refusal, which has at most 53 bytes, into a text from a place on, and answers where it ends.
@@ -41,6 +78,7 @@ pub fn read_full<R: Read>(input: &mut R, room: &mut [u8]) -> io::Result<usize>
     ensures whole { IfOk result (λ n. n < length room.new → IsAtEnd (R.remaining input.new)) }
 {
     let mut done = 0;
+    // How many reads it takes is not known: no `for` is plainer.
     while done < room.len() {
         let n = input.read(&mut room[done..])?;
         if n == 0 {

@@ -13,10 +13,14 @@ use borrow.Author.Tests.{ltb-false, lt-ltb, le-ltb, not-false}
 use Rattle.job.specs.declared.records.Kind.{Kind}
 use Rattle.job.specs.declared.records.Row.{Row}
 use Rattle.job.specs.declared.records.Past.{Past}
+use Rattle.std.specs.Prelude.{Result, Ok, Err, MatchResult, IsErrAnd, ⊤}
+use Rattle.job.specs.declared.Refused.{Refused}
+use Rattle.refusal.specs.declared.Refusal.{Refusal}
+use Rattle.refusal.specs.Refusal.{number_of}
 use Rattle.job.specs.declared.reading.Look.{Look}
 use Rattle.lent.specs.Little.{number_at}
 use Rattle.job.specs.Job.{row_by, known_of, fits_of, ends_of, size_of, row_of, kind_of, payload_of, past_of, nothing_yet, in_order, within_of, settings_fit, Fate, refused, last, further, passed, payload_fate, fate_of, Notice, refused_at, followed, refusal_from, Content, content_of, content_from}
-use Rattle.job.specs.Inner.{looked_of, Sound}
+use Rattle.job.specs.Inner.{looked_of, noticed, Sound}
 use Rattle.job.proofs.Rules.{sized_by}
 
 -- what the records so far leave to the order, by a name for the crates above
@@ -148,10 +152,23 @@ ends_there left k r b e h t = rw (← e) (sym h ∙ t)
 pub payload_there : (job : List ℕ) (at n : ℕ) → n ≡ size_of (drop at job) → take (6 + n - 6) (drop 6 (take (length job - at) (drop at job))) ≡ payload_of (drop at job)
 payload_there job at n e = let f : 6 + n - 6 ≡ n = omega arith in rw (f, rest_of at job, e)
 
--- the record at an offset, as the part that is lent shows it, with the answer's case known
-pub as_looked : (m : ℕ) (past : Past) (job : List ℕ) (at : ℕ) (r v : Look) → r ≡ v → looked_of r ≡ fate_of m past (take (length job - at) (drop at job))
-    → fate_of m past (drop at job) ≡ looked_of v
-as_looked m past job at r v t e = sym (rw (rest_of at job, t) at e)
+-- the record at an offset, as the part that is lent shows it, where the answer's refusal is put beside an offset and the case is known
+pub looked_on : (P : Refusal → Refused → Type 0) (r : Result Look Refusal) (told : Result Look Refused) (x : Look) → told ≡ Ok x
+    → MatchResult r (λ y. told ≡ Ok y) (λ why. IsErrAnd told (P why)) → r ≡ Ok x
+looked_on P (Ok y) told x t h = cc
+looked_on P (Err why) (Ok y) x t h = absurd h
+looked_on P (Err why) (Err z) x t h = let z : ◌≡◌ {A = ℕ} 0 1 = cc in absurd (omega arith)
+
+pub as_looked : (m : ℕ) (past : Past) (job : List ℕ) (at : ℕ) (r : Result Look Refusal) (told : Result Look Refused) (x v : Look) (P : Refusal → Refused → Type 0) → told ≡ Ok x → x ≡ v
+    → MatchResult r (λ y. told ≡ Ok y) (λ why. IsErrAnd told (P why)) → looked_of r ≡ fate_of m past (take (length job - at) (drop at job)) → fate_of m past (drop at job) ≡ looked_of (Ok v)
+as_looked m past job at r told x v P t i h e = let k : r ≡ Ok x = looked_on P r told x t h in sym (rw (rest_of at job, k, i) at e)
+
+-- and where it is refused
+pub looked_bad : (P : Refusal → Refused → Type 0) (r : Result Look Refusal) (told : Result Look Refused) (z : Refused) → told ≡ Err z
+    → MatchResult r (λ y. told ≡ Ok y) (λ why. IsErrAnd told (P why)) → (why : Refusal) × (r ≡ Err why) × P why z
+looked_bad P (Ok y) told z t h = let z : ◌≡◌ {A = ℕ} 0 1 = cc in absurd (omega arith)
+looked_bad P (Err why) (Ok y) z t h = absurd h
+looked_bad P (Err why) (Err x) z t h = let e : x ≡ z = cc in (why, refl, rw (← e) h)
 
 -- A walk that is under way: what is left of it leads where the whole walk leads.
 pub record Underway (m : ℕ) (job : List ℕ) (at : ℕ) (past : Past) : Type 0 where
@@ -168,8 +185,13 @@ module _ (m : ℕ) (job : List ℕ) (at : ℕ) (past : Past) (u : Underway m job
       → followed (refusal_from (pred u.fuel) m) v (drop at job) at ≡ refusal_from (length job) m job 0 nothing_yet
   one_more v e = rw (← e) (sym (turn u.fuel m (drop at job) at past (simp length-drop u.enough)) ∙ u.rest)
 
-  pub refused_at_lem : (k : ℕ) → fate_of m past (drop at job) ≡ refused k → refused_at k at ≡ refusal_from (length job) m job 0 nothing_yet
+  refused_at_lem : (k : ℕ) → fate_of m past (drop at job) ≡ refused k → refused_at k at ≡ refusal_from (length job) m job 0 nothing_yet
   refused_at_lem k e = one_more (refused k) e
+
+  pub refused_there : (r : Result Look Refusal) (why : Refusal) (out : Result ⊤ Refused) (told : Refused) → r ≡ Err why → IsErrAnd out (λ e. e ≡ told) → told ≡ record { why = why; offset = at }
+      → looked_of r ≡ fate_of m past (take (length job - at) (drop at job)) → noticed out ≡ refusal_from (length job) m job 0 nothing_yet
+  refused_there r why (Ok x) told k p t e = absurd p
+  refused_there r why (Err y) told k p t e = rw (p, t) (refused_at_lem (number_of why) (sym (rw (rest_of at job, k) at e)))
 
   pub head_there : fate_of m past (drop at job) ≡ last → 6 ≤ length job - at
   head_there e = let p = passing m past (drop at job) last refl e in rw length-drop at p.head
@@ -215,16 +237,15 @@ going rest (further size past) left offset h = refl
 pub record Carrying (m : ℕ) (job : List ℕ) (from : Content) (at : ℕ) (now : Content) : Type 0 where
   pub inside : at ≤ length job
   pub cells : length now.cells ≡ m
-  pub five : length now.host ≡ 5
   pub fuel : ℕ
   pub enough : length job - at ≤ fuel
   pub past : Past
   pub sound : refusal_from fuel m (drop at job) at past ≡ none
   pub rest : content_from fuel (drop at job) now ≡ content_from (length job) job from
 
-pub begin : (m : ℕ) (job : List ℕ) (from : Content) → length from.cells ≡ m → length from.host ≡ 5 → refusal_from (length job) m job 0 nothing_yet ≡ none → Carrying m job from 0 from
-begin m job from e f h =
-    record { inside = omega arith; cells = e; five = f; fuel = length job; enough = omega arith; past = nothing_yet; sound = h; rest = refl }
+pub begin : (m : ℕ) (job : List ℕ) (from : Content) → length from.cells ≡ m → refusal_from (length job) m job 0 nothing_yet ≡ none → Carrying m job from 0 from
+begin m job from e h =
+    record { inside = omega arith; cells = e; fuel = length job; enough = omega arith; past = nothing_yet; sound = h; rest = refl }
 
 ended : (n : ℕ) (left : List ℕ) (c : Content) → 0 < n → ends_of (kind_of left) ≡ true → content_from n left c ≡ c
 unfolding content_from
@@ -258,16 +279,15 @@ module _ (m : ℕ) (job : List ℕ) (from : Content) (at : ℕ) (now : Content) 
     next_course : further (6 + size_of (drop at job)) (past_of u.past (kind_of (drop at job)) (row_of (drop at job)).rank (payload_of (drop at job))) ≡ fate_of m u.past (drop at job)
     next_course = let c = fine.course in rw e at c
 
-    pub on : (next : Content) → next ≡ content_of (kind_of (drop at job)) (payload_of (drop at job)) now → length next.cells ≡ length now.cells → length next.host ≡ length now.host
+    pub on : (next : Content) → next ≡ content_of (kind_of (drop at job)) (payload_of (drop at job)) now → length next.cells ≡ length now.cells
         → Carrying m job from (at + (6 + size_of (drop at job))) next
-    on next p q s =
+    on next p q =
         let t = there in
         let h : followed (refusal_from (pred u.fuel) m) (further (6 + size_of (drop at job)) (past_of u.past (kind_of (drop at job)) (row_of (drop at job)).rank (payload_of (drop at job)))) (drop at job) at ≡ none
         = ap (λ (v : Fate). followed (refusal_from (pred u.fuel) m) v (drop at job) at) next_course ∙ walked in
         record {
           inside = omega (arith, u.inside);
           cells = q ∙ u.cells;
-          five = s ∙ u.five;
           fuel = pred u.fuel;
           enough = omega (arith, u.enough);
           past = past_of u.past (kind_of (drop at job)) (row_of (drop at job)).rank (payload_of (drop at job));

@@ -2,10 +2,11 @@
 -- Assumes nothing.
 use Prim.Native.Nat.{ℕ, zero, suc, ◌+◌, ◌-◌, ◌*◌, ◌≤◌, ◌<◌}
 use mathlib.Core.Path.{◌≡◌, refl, ap, ◌∙◌}
-use mathlib.Core.List.{List, [], append-nil}
+use mathlib.Core.List.{List, [], append-nil, append_assoc}
 use native.Mathlib.Omega.{arith}
-use lib.ListN.{length, set, drop, drop_of_length-le}
-use lib.Seq.{sets, sets-eq, drop-drop}
+use lib.ListN.{length, set, take, drop, length-drop, drop_of_length-le}
+use lib.Seq.{sets, sets-eq, take_all, drop-drop, length-take-le}
+use borrow.Rule.Slice.PartMut.{put_mid}
 use Rattle.lent.specs.Little.{number_at}
 use Rattle.job.specs.Job.{words_of}
 
@@ -34,8 +35,19 @@ unfolding words_of
 words_over part words count i h = let w : count - i ≡ 0 = omega arith in rw w
 
 -- as many words as there are places leave nothing of what was there
-pub words_over_all : (part words : List ℕ) → length part ≡ 5 → sets part 0 (words_of 5 words) ≡ words_of 5 words
-words_over_all part words e =
-    let n = length-words 5 words in
-    let d : drop (0 + length (words_of 5 words)) part ≡ [] = drop_of_length-le part {i = 0 + length (words_of 5 words)} (omega arith) in
-    sets-eq (words_of 5 words) part 0 (omega arith) ∙ rw d (append-nil (words_of 5 words))
+pub words_over_all : (part words : List ℕ) → sets part 0 (words_of (length part) words) ≡ words_of (length part) words
+words_over_all part words =
+    let n = length-words (length part) words in
+    let d : drop (0 + length (words_of (length part) words)) part ≡ [] = drop_of_length-le part {i = 0 + length (words_of (length part) words)} (omega arith) in
+    sets-eq (words_of (length part) words) part 0 (omega arith) ∙ rw d (append-nil (words_of (length part) words))
+
+-- words read into a part that is lent are stored into the whole
+pub lent_words : (cells payload : List ℕ) (base count : ℕ) (part : List ℕ) → base + count ≤ length cells
+    → part ≡ words_of (length (take (base + count - base) (drop base cells))) (take (length payload - 2) (drop 2 payload))
+    → put_mid base (base + count - base) cells part ≡ sets cells base (words_of count (drop 2 payload))
+lent_words cells payload base count part h e =
+    let c : base + count - base ≡ count = omega arith in
+    let l : length (take count (drop base cells)) ≡ count = length-take-le count (drop base cells) (simp length-drop (omega arith)) in
+    let t : take (length payload - 2) (drop 2 payload) ≡ drop 2 payload = take_all (length payload - 2) (drop 2 payload) (simp length-drop (omega arith)) in
+    let n : length (words_of count (drop 2 payload)) ≡ count = length-words count (drop 2 payload) in
+    rw (e, c, l, t, sets-eq (words_of count (drop 2 payload)) cells base (omega arith), n, drop-drop) (simp append_assoc)

@@ -2,75 +2,73 @@
 ghost use Rattle.std.specs.Prelude.{◌≡◌, ◌+◌, ◌*◌, ◌≤◌, length, set};
 ghost use Rattle.std.proofs.Math.Option.{none};
 ghost use Rattle.std.proofs.lemmas.List.Edits.{sets};
-ghost use Rattle.machine.specs.State.{fresh_settings};
 ghost use Rattle.job.specs.Job.{register_of, register_value, nothing_yet, fate_of, payload_fate, refusal_from, base_of, cells_in, words_of, content_of, content_from};
 ghost use Rattle.job.specs.Inner.{looked_of, noticed, content_with, Sized, Sound};
 
-use crate::Answer;
+use crate::Refused;
 use crate::records::{
     Kind, Past, Row, ends, fits, in_order, known, passed, row_by, settings_in, settled, within,
 };
 use lent::number;
-use machine::Settings;
+use machine::Machine;
 use refusal::Refusal;
 
-// What becomes of a record: refused, the last, or on to the next.
+// What becomes of a record that is not refused: it is the last, or on to the next.
 #[derive(Drop)]
 pub(crate) enum Look {
-    Bad(Refusal),
     Last,
     Next { size: usize, past: Past },
 }
 
-// A record's payload: 46, 45, 10.
-fn look_in(m: usize, past: Past, row: Row, payload: &[u8]) -> Look
+// A record's payload: 46, 45, 10. Past, row and payload are taken one by one, as the definitions take them.
+fn look_in(m: usize, past: Past, row: Row, payload: &[u8]) -> Result<Look, Refusal>
     requires { Sized row.kind (length payload.now) }
     ensures { looked_of result ≡ payload_fate m past row payload.now (length payload.now) }
 {
     if !in_order(past, row, payload) {
-        return Look::Bad(Refusal::Order);
+        return Err(Refusal::Order);
     }
     let kind = row.kind;
     if !within(m, kind, payload) {
-        return Look::Bad(Refusal::Space);
+        return Err(Refusal::Space);
     }
     if !settled(kind, payload) {
-        return Look::Bad(Refusal::Unsettled);
+        return Err(Refusal::Unsettled);
     }
     if ends(kind) {
-        return Look::Last;
+        return Ok(Look::Last);
     }
-    Look::Next {
+    Ok(Look::Next {
         size: 6 + payload.len(),
         past: passed(past, row, payload),
-    }
+    })
 }
 
 // A record where it begins: 41, 42, 43, 44, and then its payload.
-fn look_at(m: usize, past: Past, left: &[u8]) -> Look
+fn look_at(m: usize, past: Past, left: &[u8]) -> Result<Look, Refusal>
     ensures { looked_of result ≡ fate_of m past left.now }
 {
     if left.len() < 6 {
-        return Look::Bad(Refusal::Short);
+        return Err(Refusal::Short);
     }
     let row = row_by(number(left, 4, 2));
     let kind = row.kind;
     if !known(kind) {
-        return Look::Bad(Refusal::Unknown);
+        return Err(Refusal::Unknown);
     }
     let size = number(left, 0, 4);
     if !fits(row, size) {
-        return Look::Bad(Refusal::Length);
+        return Err(Refusal::Length);
     }
     let end = 6 + size as usize;
     if left.len() < end {
-        return Look::Bad(Refusal::Cut);
+        return Err(Refusal::Cut);
     }
     look_in(m, past, row, &left[6..end])
 }
 
 // A job's first refusal, or none.
-pub(crate) fn examine(job: &[u8], m: usize) -> Answer
+pub(crate) fn examine(job: &[u8], m: usize) -> Result<(), Refused>
     ensures { noticed result ≡ refusal_from (length job.now) m job.now 0 nothing_yet }
 {
     let mut at = 0;
@@ -79,121 +77,82 @@ pub(crate) fn examine(job: &[u8], m: usize) -> Answer
         end: 0,
         next: 0,
     };
-    loop {
-        let looked = look_at(m, past, &job[at..]);
-        match looked {
-            Look::Bad(why) => {
-                return Answer::Refused { why, offset: at };
-            }
-            Look::Last => {
-                let end = at + 6;
-                if end < job.len() {
-                    return Answer::Refused {
-                        why: Refusal::After,
-                        offset: end,
-                    };
-                }
-                return Answer::Done;
-            }
-            Look::Next { size, past: seen } => {
-                at = at + size;
-                past = seen;
-            }
-        }
+    // A turn goes on by the record's size: no `for` is plainer.
+    while let Look::Next { size, past: seen } = look_at(m, past, &job[at..]).map_err(|why| Refused {
+        why,
+        offset: at,
+    })? {
+        at += size;
+        past = seen;
     }
+    let end = at + 6;
+    if end < job.len() {
+        return Err(Refused {
+            why: Refusal::After,
+            offset: end,
+        });
+    }
+    Ok(())
 }
 
-// Words go into the part that starts with them.
-fn put_words(part: &mut [u32], words: &[u8], count: usize)
-    requires words_hold { 4 * count ≤ length words.now }
-    requires part_holds { count ≤ length part.old }
-    ensures { part.new ≡ sets part.old 0 (words_of count words.now) }
+// Each word of the part is read from its four bytes.
+fn put_words(part: &mut [u32], words: &[u8])
+    ensures { part.new ≡ words_of (length part.old) words.now }
 {
-    let mut i = 0;
-    while i < count {
-        part[i] = number(words, 4 * i, 4);
-        i = i + 1;
+    for (i, cell) in part.iter_mut().enumerate() {
+        *cell = number(words, 4 * i, 4);
     }
 }
 
-// The part that starts at the record's base is lent on.
+// The run's cells, from the record's base on, are lent on.
 fn put_run(cells: &mut [u32], payload: &[u8])
     requires { Sound (length cells.old) Kind.Run payload.now }
     ensures { cells.new ≡ sets cells.old (base_of payload.now) (cells_in payload.now) }
 {
     let base = number(payload, 0, 2) as usize;
     let count = (payload.len() - 2) / 4;
-    put_words(&mut cells[base..], &payload[2..], count);
+    put_words(&mut cells[base..base + count], &payload[2..]);
 }
 
 // A register's value.
 fn put_value(regs: &mut [u32; 256], payload: &[u8])
     ensures { regs.new ≡ set regs.old (register_of payload.now) (register_value payload.now) }
 {
-    let i = number(payload, 0, 1) as usize;
-    regs[i] = number(payload, 1, 4);
+    regs[number(payload, 0, 1) as usize] = number(payload, 1, 4);
 }
 
-// One record carried out. It answers the settings.
-fn apply(
-    kind: Kind,
-    payload: &[u8],
-    regs: &mut [u32; 256],
-    s: Settings,
-    host: &mut [u32],
-    cells: &mut [u32],
-) -> Settings
-    requires sound { Sound (length cells.old) kind payload.now }
-    requires five_words { length host.old ≡ 5 }
-    ensures { content_with regs.new result host.new cells.new
-        ≡ content_of kind payload.now (content_with regs.old s host.old cells.old) }
+// One record carried out.
+fn apply(kind: Kind, payload: &[u8], machine: &mut Machine, cells: &mut [u32])
+    requires { Sound (length cells.old) kind payload.now }
+    ensures content { content_with machine.new cells.new ≡ content_of kind payload.now (content_with machine.old cells.old) }
+    ensures depth { machine.new.depth ≡ machine.old.depth }
 {
     match kind {
-        Kind::Run => {
-            put_run(cells, payload);
-            s
-        }
-        Kind::Register => {
-            put_value(regs, payload);
-            s
-        }
-        Kind::Setup => settings_in(payload),
-        Kind::Host => {
-            put_words(host, payload, 5);
-            s
-        }
-        Kind::End => s,
-        Kind::Other => s,
+        Kind::Run => put_run(cells, payload),
+        Kind::Register => put_value(&mut machine.regs, payload),
+        Kind::Setup => machine.settings = settings_in(payload),
+        Kind::Host => put_words(&mut machine.host, payload),
+        Kind::End | Kind::Other => {}
     }
 }
 
-// The records of a job that has no refusal, carried out one after the other. It answers the settings.
-pub(crate) fn carry_out(
-    job: &[u8],
-    regs: &mut [u32; 256],
-    host: &mut [u32],
-    cells: &mut [u32],
-) -> Settings
-    requires not_refused { refusal_from (length job.now) (length cells.old) job.now 0 nothing_yet ≡ none }
-    requires five_words { length host.old ≡ 5 }
-    ensures { content_with regs.new result host.new cells.new
-        ≡ content_from (length job.now) job.now (content_with regs.old fresh_settings host.old cells.old) }
+// The records of a job that has no refusal, carried out one after the other.
+pub(crate) fn carry_out(job: &[u8], machine: &mut Machine, cells: &mut [u32])
+    requires { refusal_from (length job.now) (length cells.old) job.now 0 nothing_yet ≡ none }
+    ensures content { content_with machine.new cells.new ≡ content_from (length job.now) job.now (content_with machine.old cells.old) }
+    ensures depth { machine.new.depth ≡ machine.old.depth }
 {
     let mut at = 0;
-    let mut settings = Settings {
-        flags: 0,
-        mask: 0,
-        mode: 3,
-    };
+    // A turn goes on by the record's size: no `for` is plainer.
     loop {
         let left = &job[at..];
         let row = row_by(number(left, 4, 2));
         let kind = row.kind;
         if ends(kind) {
-            return settings;
+            return;
         }
         let end = 6 + number(left, 0, 4) as usize;
-        settings = apply(kind, &left[6..end], regs, settings, host, cells);
-        at = at + end;
+        apply(kind, &left[6..end], machine, cells);
+        at += end;
     }
 }

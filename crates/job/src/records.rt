@@ -6,7 +6,7 @@ ghost use Rattle.job.specs.Inner.{Sized};
 use lent::number;
 use machine::{Settings, good_settings};
 
-// A record's kind, or none.
+// A record's kind, or none: six, as the definitions and `wordless_by` have them.
 #[derive(Clone, Copy)]
 pub(crate) enum Kind {
     Run,
@@ -47,6 +47,7 @@ fn line(kind: Kind, rank: u32, least: u32, most: u32) -> Row
 }
 
 // The table of kinds, by their numbers in their order.
+#[tactic(auto, unfolding(crate::specs::Job::row_by))]
 pub(crate) fn row_by(number: u32) -> Row
     ensures { result ≡ row_by number }
 {
@@ -63,65 +64,41 @@ pub(crate) fn row_by(number: u32) -> Row
 pub(crate) fn known(kind: Kind) -> bool
     ensures { result ≡ known_of kind }
 {
-    match kind {
-        Kind::Run => true,
-        Kind::Register => true,
-        Kind::Setup => true,
-        Kind::Host => true,
-        Kind::End => true,
-        Kind::Other => false,
-    }
+    !matches!(kind, Kind::Other)
 }
 
 // Whether a payload has a length of its row.
 pub(crate) fn fits(row: Row, size: u32) -> bool
     ensures { result ≡ fits_of row size }
 {
-    if row.least <= size {
-        if size <= row.most {
-            return (size - row.least) % 4 == 0;
-        }
-    }
-    false
+    row.least <= size && size <= row.most && (size - row.least) % 4 == 0
 }
 
 // Whether a kind ends the job.
 pub(crate) fn ends(kind: Kind) -> bool
     ensures { result ≡ ends_of kind }
 {
-    match kind {
-        Kind::Run => false,
-        Kind::Register => false,
-        Kind::Setup => false,
-        Kind::Host => false,
-        Kind::End => true,
-        Kind::Other => true,
-    }
+    matches!(kind, Kind::End | Kind::Other)
 }
 
 // Bases and registers rise, and the settings and the host's words come once.
 fn rises(past: Past, row: Row, payload: &[u8]) -> bool
     ensures { result ≡ rises_of past row.kind row.rank payload.now }
 {
-    let kind = row.kind;
-    match kind {
+    match row.kind {
         Kind::Run => past.end <= number(payload, 0, 2),
         Kind::Register => past.next <= number(payload, 0, 1),
-        Kind::Setup => past.rank < row.rank,
-        Kind::Host => past.rank < row.rank,
-        Kind::End => true,
-        Kind::Other => true,
+        Kind::Setup | Kind::Host => past.rank < row.rank,
+        Kind::End | Kind::Other => true,
     }
 }
 
 // Whether a record keeps the order.
+#[tactic(auto, unfolding(crate::specs::Job::in_order))]
 pub(crate) fn in_order(past: Past, row: Row, payload: &[u8]) -> bool
     ensures { result ≡ in_order past row payload.now }
 {
-    if past.rank <= row.rank {
-        return rises(past, row, payload);
-    }
-    false
+    past.rank <= row.rank && rises(past, row, payload)
 }
 
 // The end of a run's cells.
@@ -139,11 +116,7 @@ pub(crate) fn within(m: usize, kind: Kind, payload: &[u8]) -> bool
 {
     match kind {
         Kind::Run => run_end(payload) as usize <= m,
-        Kind::Register => true,
-        Kind::Setup => true,
-        Kind::Host => true,
-        Kind::End => true,
-        Kind::Other => true,
+        _ => true,
     }
 }
 
@@ -163,12 +136,8 @@ pub(crate) fn settled(kind: Kind, payload: &[u8]) -> bool
     ensures { result ≡ settings_fit kind payload.now }
 {
     match kind {
-        Kind::Run => true,
-        Kind::Register => true,
         Kind::Setup => good_settings(settings_in(payload)),
-        Kind::Host => true,
-        Kind::End => true,
-        Kind::Other => true,
+        _ => true,
     }
 }
 
@@ -178,29 +147,18 @@ pub(crate) fn passed(past: Past, row: Row, payload: &[u8]) -> Past
     ensures { result ≡ past_of past row.kind row.rank payload.now }
 {
     let rank = row.rank;
-    let kind = row.kind;
-    match kind {
+    match row.kind {
         Kind::Run => Past {
             rank,
             end: run_end(payload),
-            next: past.next,
+            ..past
         },
         Kind::Register => Past {
             rank,
-            end: past.end,
             next: number(payload, 0, 1) + 1,
+            ..past
         },
-        Kind::Setup => Past {
-            rank,
-            end: past.end,
-            next: past.next,
-        },
-        Kind::Host => Past {
-            rank,
-            end: past.end,
-            next: past.next,
-        },
-        Kind::End => past,
-        Kind::Other => past,
+        Kind::Setup | Kind::Host => Past { rank, ..past },
+        Kind::End | Kind::Other => past,
     }
 }

@@ -2,7 +2,7 @@
 
 #![tactic(auto)]
 
-ghost use Rattle.std.specs.Prelude.{◌≡◌, cond, not, ◌&&◌, ◌<◌, leb, ltb, length, set};
+ghost use Rattle.std.specs.Prelude.{◌≡◌, cond, is_ok, not, ◌&&◌, ◌<◌, leb, ltb, length, set};
 ghost use Rattle.machine.specs.State.{write_if};
 ghost use Rattle.journal.specs.Words.{number_a, number_b};
 ghost use Rattle.journal.specs.Journal.{entered, first_in, out_of_range, damaged_of, restored, cells_before};
@@ -10,7 +10,7 @@ ghost use Rattle.journal.specs.Journal.{entered, first_in, out_of_range, damaged
 use packed::Packed;
 
 // An entry: its fields are words 0 to 7. They hold what the step found, and 0 where it had no such part.
-#[derive(Clone, Copy)]
+#[derive(Clone, Copy, Default)]
 pub struct Entry {
     pub pc: u32,
     pub settings: u32,
@@ -24,6 +24,10 @@ pub struct Entry {
     pub uses: u32,
 }
 
+// An entry that no step writes.
+#[derive(Clone, Copy, Debug, PartialEq, Eq)]
+pub struct Damaged;
+
 impl Entry {
     // Words of an entry.
     pub const WORDS: usize = 8;
@@ -36,6 +40,7 @@ pub fn enter(part: &mut [u32], e: Entry)
     if part.len() < Entry::WORDS {
         return;
     }
+    // word by word, as an entry has them: a list copied in would be no plainer
     part[0] = e.pc;
     part[1] = e.settings;
     part[2] = e.numbers;
@@ -51,16 +56,7 @@ pub fn entry_in(part: &[u32]) -> Entry
     ensures { result ≡ first_in part.now }
 {
     if part.len() < Entry::WORDS {
-        return Entry {
-            pc: 0,
-            settings: 0,
-            numbers: 0,
-            a: 0,
-            b: 0,
-            address: 0,
-            old: 0,
-            uses: 0,
-        };
+        return Entry::default();
     }
     Entry {
         pc: part[0],
@@ -78,75 +74,58 @@ pub fn entry_in(part: &[u32]) -> Entry
 fn is_out_of_range(size: usize, e: Entry) -> bool
     ensures { result ≡ out_of_range size e }
 {
-    if size <= e.pc as usize {
-        return true;
-    }
-    if Packed::BOUND <= e.settings {
-        return true;
-    }
-    65536 <= e.numbers
+    size <= e.pc as usize || Packed::BOUND <= e.settings || 65536 <= e.numbers
 }
 
 // The stored cell is put back, if it is in memory.
-fn restore_cell(cells: &mut [u32], e: Entry) -> bool
-    ensures within { result ≡ (leb 1 e.address && ltb e.address (length cells.old)) }
-    ensures cells { cells.new ≡ write_if result cells.old e.address e.old }
+fn restore_cell(cells: &mut [u32], e: Entry) -> Result<(), Damaged>
+    ensures within { is_ok result ≡ (leb 1 e.address && ltb e.address (length cells.old)) }
+    ensures cells { cells.new ≡ write_if (is_ok result) cells.old e.address e.old }
 {
     let i = e.address as usize;
-    if i == 0 {
-        return false;
+    if i == 0 || cells.len() <= i {
+        return Err(Damaged);
     }
-    if i < cells.len() {
-        cells[i] = e.old;
-        return true;
-    }
-    false
+    cells[i] = e.old;
+    Ok(())
 }
 
-fn restore_a(regs: &mut [u32; 256], e: Entry)
-    ensures { regs.new ≡ set regs.old (number_a e) e.a }
+// A register is put back.
+fn restore(regs: &mut [u32; 256], number: u32, value: u32)
+    requires { number < 256 }
+    ensures { regs.new ≡ set regs.old number value }
 {
-    let i = (e.numbers % 256) as usize;
-    regs[i] = e.a;
+    regs[number as usize] = value;
 }
 
-fn restore_b(regs: &mut [u32; 256], e: Entry)
-    requires { e.numbers < 65536 }
-    ensures { regs.new ≡ set regs.old (number_b e) e.b }
-{
-    let i = (e.numbers / 256) as usize;
-    regs[i] = e.b;
-}
-
-// A step is taken back by its entry, but for PC and settings, which the caller sets once; or nothing is done, and the answer is false.
-pub fn take_back(regs: &mut [u32; 256], cells: &mut [u32], e: Entry) -> bool
-    ensures whole { result ≡ not (damaged_of (length cells.old) e) }
-    ensures restored { regs.new ≡ cond result (restored e regs.old) regs.old }
-    ensures cells { cells.new ≡ cond result (cells_before e cells.old) cells.old }
+// A step is taken back by its entry, but for PC and settings, which the caller sets once; or nothing is done.
+pub fn take_back(regs: &mut [u32; 256], cells: &mut [u32], e: Entry) -> Result<(), Damaged>
+    ensures whole { is_ok result ≡ not (damaged_of (length cells.old) e) }
+    ensures restored { regs.new ≡ cond (is_ok result) (restored e regs.old) regs.old }
+    ensures cells { cells.new ≡ cond (is_ok result) (cells_before e cells.old) cells.old }
 {
     if is_out_of_range(cells.len(), e) {
-        return false;
+        return Err(Damaged);
     }
+    // Most entries have one register at most. In another order, or by a match, a step back takes 2 to 6 more.
     let uses = e.uses;
     if uses < 2 {
         if uses == 1 {
-            restore_a(regs, e);
+            restore(regs, e.numbers % 256, e.a);
         }
-        return true;
+        return Ok(());
     }
     if 7 < uses {
-        return false;
+        return Err(Damaged);
     }
     if 3 < uses {
-        if !restore_cell(cells, e) {
-            return false;
-        }
+        restore_cell(cells, e)?;
     }
     if uses % 2 == 1 {
-        restore_a(regs, e);
+        restore(regs, e.numbers % 256, e.a);
     }
     if uses / 2 % 2 == 1 {
-        restore_b(regs, e);
+        restore(regs, e.numbers / 256, e.b);
     }
-    true
+    Ok(())
 }

@@ -2,14 +2,16 @@
 
 #![tactic(auto)]
 
-ghost use Rattle.std.specs.Prelude.{◌≡◌, ℕ, List, length};
+ghost use Rattle.std.specs.Prelude.{◌≡◌, ℕ, List};
 ghost use Rattle.cell.specs.Cell.{n_of, imm_of};
 ghost use Rattle.effect.specs.Action.{Bz};
 ghost use Rattle.effect.specs.Refusal.{target_of, below_zero, wild};
-ghost use Rattle.carried.specs.Left.{left, left_of, before};
+ghost use Rattle.carried.specs.Left.{left_of};
+ghost use Rattle.carried.specs.Step.{Lent, left_in, before_in};
 
-use carried::{Told, move_on, operand};
+use carried::{Step, Told, operand};
 use cell::{imm_of, n_of};
+use half::se;
 
 // Whether a branch leads to below zero: in 64 bits PC + 1 + the signed imm does not wrap. The sign is made in a form that becomes one instruction.
 fn is_below_zero(pc: u32, imm: u16) -> bool
@@ -23,26 +25,22 @@ fn is_below_zero(pc: u32, imm: u16) -> bool
 fn is_wild(regs: &[u32; 256], cell: u32) -> bool
     ensures { result ≡ wild regs.now (n_of cell) (imm_of cell) }
 {
-    if is_below_zero(regs[255], imm_of(cell)) {
-        return operand(regs, n_of(cell)) == 0;
-    }
-    false
+    is_below_zero(regs[255], imm_of(cell)) && operand(regs, n_of(cell)) == 0
 }
 
 // 121, BZ: PC gains se(imm) if Rn is 0; a wild jump is not done.
-pub fn branch(part: &mut [u32], regs: &mut [u32; 256], s: u32, cell: u32, told: &mut u32) -> u32
-    ensures { (host cells : List ℕ) → length regs.old ≡ 256 → left regs.new cells part.new result told.new
-        ≡ left_of told.old (Bz (n_of cell) (imm_of cell)) (before regs.old s host cells part.old) }
+pub fn branch(step: &mut Step, cell: u32)
+    ensures lent { Lent step.old step.new }
+    ensures left { (host cells : List ℕ) → left_in step.new cells
+        ≡ left_of step.old.told (Bz (n_of cell) (imm_of cell)) (before_in step.old host cells) }
 {
-    if is_wild(regs, cell) {
-        *told = Told::WILD;
-        return s;
+    if is_wild(step.regs, cell) {
+        step.refuse(Told::WILD);
+        return;
     }
-    move_on(part, regs, s);
-    let n = n_of(cell) as usize;
-    if regs[n] == 0 {
-        let next = regs[255];
-        regs[255] = std::num::wrapping_add_u32(next, half::se(imm_of(cell)));
+    step.move_on();
+    if step.regs[n_of(cell) as usize] == 0 {
+        let next = step.regs[255];
+        step.regs[255] = next.wrapping_add(se(imm_of(cell)));
     }
-    s
 }

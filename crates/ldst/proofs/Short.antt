@@ -21,24 +21,21 @@ use Rattle.ldst.specs.Inner.{entry_by}
 use Rattle.ldst.proofs.Cases.{Known, done}
 
 -- PC moved on, and put back
-pub back_again : (regs : List ℕ) (next : ℕ) → set (set regs 255 next) 255 (pc_of regs) ≡ regs
-back_again regs next = set-set regs 255 next (pc_of regs) ∙ set-get_or regs 255 0
+pub back_again : (regs : List ℕ) {on : List ℕ} {pc : ℕ} → on ≡ set regs 255 (next_of regs) → pc ≡ pc_of regs → set on 255 pc ≡ regs
+back_again regs e p = rw (e, p) (set-set regs 255 (next_of regs) (pc_of regs) ∙ set-get_or regs 255 0)
 
 -- what is known once PC has moved on: i, j and k are the numbers n, m and l, and size is that of the cells below the special addresses
-pub record Moved (n m l i j k next size : ℕ) (regs cells : List ℕ) : Type 0 where
+pub record Moved (n m l i j k size : ℕ) (regs on cells : List ℕ) : Type 0 where
   pub n_is : i ≡ n
   pub m_is : j ≡ m
   pub l_is : k ≡ l
-  pub next_is : next ≡ next_of regs
+  pub on_is : on ≡ set regs 255 (next_of regs)
   pub size_is : size ≡ min (length cells) first_special
 
-module _ {n m l i j k next size : ℕ} {regs cells : List ℕ} (moved : Moved n m l i j k next size regs cells) (s told p : ℕ) (host part part' : List ℕ)
+module _ {n m l i j k size : ℕ} {regs on cells : List ℕ} (moved : Moved n m l i j k size regs on cells) (s told p : ℕ) (host part part' : List ℕ)
     (long : length regs ≡ 256) (word : s < 4294967296) where
-  abbrev on : List ℕ
-  on = set regs 255 next
-
   reads : (a : ℕ) → get_or on a 0 ≡ operand_of regs a
-  reads a = rw moved.next_is (read regs long a)
+  reads a = rw moved.on_is (read regs long a)
 
   known : get_or on j 0 < length cells → get_or on k 0 < length cells
       → Known n m l i j k (get_or on i 0) (get_or on j 0) (get_or on k 0) false false (before regs s host cells part)
@@ -64,7 +61,7 @@ module _ {n m l i j k next size : ℕ} {regs cells : List ℕ} (moved : Moved n 
         ← p-is,
         ne_eqb p 0 (λ z. omega arith),
         lt-ltb p first_special (omega arith),
-        moved.next_is,
+        moved.on_is,
         packed_unpacked s word,
         add-zero i,
       )
@@ -83,6 +80,6 @@ module _ {n m l i j k next size : ℕ} {regs cells : List ℕ} (moved : Moved n 
         no-mask,
         no_mode,
         ne_eqb p 0 (λ z. omega arith),
-        moved.next_is,
+        moved.on_is,
         packed_unpacked s word,
       )

@@ -8,10 +8,11 @@ ghost use Rattle.machine.specs.State.{first_special, write_if};
 ghost use Rattle.effect.specs.Action.{Ldst};
 ghost use Rattle.effect.specs.Operands.{next_of, behind};
 ghost use Rattle.effect.specs.Effect.{illegal_load, illegal_store};
-ghost use Rattle.carried.specs.Left.{left, left_of, before, done_by};
-ghost use Rattle.ldst.specs.Inner.{entry_by, load_of, store_of, settings_of, kept_of, transfer_of};
+ghost use Rattle.carried.specs.Left.{left_of, done_by};
+ghost use Rattle.carried.specs.Step.{Lent, left_in, before_in};
+ghost use Rattle.ldst.specs.Inner.{load_of, store_of, settings_of, kept_of, transfer_of};
 
-use carried::{Told, illegal, is_fault, next_of, operand};
+use carried::{Step, Told, advance, entry_at, is_fault, operand};
 use cell::{l_of, m_of, n_of};
 use journal::{Entry, enter};
 use machine::{Address, Settings, index_of};
@@ -21,26 +22,18 @@ use packed::{pack, unpack};
 fn illegal_load(p: u32) -> bool
     ensures { result ≡ illegal_load p }
 {
-    if p <= Address::MODE {
-        return false;
-    }
-    (p < Address::HOST) | (Address::HOST_LAST < p)
+    Address::MODE < p && ((p < Address::HOST) | (Address::HOST_LAST < p))
 }
 
 // Whether a store of v at p is illegal.
 fn illegal_store(p: u32, v: u32) -> bool
     ensures { result ≡ illegal_store p v }
 {
-    if p < Address::FLAGS {
-        return false;
+    match p {
+        Address::MASK => Settings::FLAGS_BOUND <= v,
+        Address::MODE => Settings::MODE_BOUND <= v,
+        _ => Address::FLAGS <= p,
     }
-    if p == Address::MASK {
-        return Settings::FLAGS_BOUND <= v;
-    }
-    if p == Address::MODE {
-        return Settings::MODE_BOUND <= v;
-    }
-    true
 }
 
 // The host's word i, by a number that is known, so that no register is kept for where they are.
@@ -58,6 +51,7 @@ fn host_word(host: &[u32; 5], i: u32) -> u32
 }
 
 // The value behind a load pointer.
+#[tactic(auto, unfolding(effect::specs::Operands::behind))]
 fn behind_pointer(cells: &[u32], s: Settings, host: &[u32; 5], p: u32) -> u32
     requires { (p < first_special → p < length cells.now) × (illegal_load p ≡ false) }
     ensures { result ≡ behind cells.now s host.now p }
@@ -65,40 +59,28 @@ fn behind_pointer(cells: &[u32], s: Settings, host: &[u32; 5], p: u32) -> u32
     if p < Address::FLAGS {
         return cells[p as usize];
     }
-    if p == Address::FLAGS {
-        return s.flags;
+    match p {
+        Address::FLAGS => s.flags,
+        Address::MASK => s.mask,
+        Address::MODE => s.mode,
+        _ => host_word(host, p - Address::HOST),
     }
-    if p == Address::MASK {
-        return s.mask;
-    }
-    if p == Address::MODE {
-        return s.mode;
-    }
-    host_word(host, p - Address::HOST)
 }
 
 // The settings after a store of v at p: the mask and the mode have addresses.
+#[tactic(auto, unfolding(crate::specs::Inner::settings_of))]
 fn resettled(p: u32, v: u32, s: Settings) -> Settings
     ensures { result ≡ settings_of p v s }
 {
-    if p == Address::MASK {
-        return Settings {
-            flags: s.flags,
-            mask: v,
-            mode: s.mode,
-        };
+    match p {
+        Address::MASK => Settings { mask: v, ..s },
+        Address::MODE => Settings { mode: v, ..s },
+        _ => s,
     }
-    if p == Address::MODE {
-        return Settings {
-            flags: s.flags,
-            mask: s.mask,
-            mode: v,
-        };
-    }
-    s
 }
 
-// A place that is written, as an entry has it: its number, its old value, and which part of the entry it is; all 0 where there is none.
+// A place that is written, as an entry has it: its number, its old value, and which part of the entry it is; all 0 where there is none, since an
+// entry has 0 there, so that an Option would be no plainer.
 #[derive(Drop)]
 struct Kept {
     number: u32,
@@ -116,41 +98,39 @@ impl Kept {
 }
 
 // v is stored at p if p is an address of memory.
+#[tactic(auto, unfolding(crate::specs::Inner::store_of, crate::specs::Inner::kept_of))]
 fn store(cells: &mut [u32], p: u32, v: u32) -> Kept
     requires { p < first_special → p < length cells.old }
     ensures kept { result ≡ kept_of (store_of p v).used (store_of p v).address cells.old 4 }
     ensures stored { cells.new ≡ write_if (store_of p v).used cells.old (store_of p v).address (store_of p v).value }
 {
-    if 1 <= p {
-        if p < Address::FLAGS {
-            let i = p as usize;
-            let old = cells[i];
-            cells[i] = v;
-            return Kept {
-                number: p,
-                old,
-                uses: 4,
-            };
-        }
+    if 1 <= p && p < Address::FLAGS {
+        let i = p as usize;
+        let old = cells[i];
+        cells[i] = v;
+        return Kept {
+            number: p,
+            old,
+            uses: 4,
+        };
     }
     Kept::NONE
 }
 
 // PC moves on; then register n gets v if the pointer p is not 0.
+#[tactic(auto, unfolding(crate::specs::Inner::load_of, crate::specs::Inner::kept_of))]
 fn load(regs: &mut [u32; 256], p: u32, n: u32, v: u32) -> Kept
     requires { n < 256 }
     ensures kept { result ≡ kept_of (load_of p n v).used (load_of p n v).number regs.old 1 }
     ensures loaded { regs.new
         ≡ write_if (load_of p n v).used (set regs.old 255 (next_of regs.old)) (load_of p n v).number (load_of p n v).value }
 {
-    let next = next_of(regs[255]);
-    if p == 0 {
-        regs[255] = next;
-        return Kept::NONE;
-    }
     let i = n as usize;
     let old = regs[i];
-    regs[255] = next;
+    advance(regs);
+    if p == 0 {
+        return Kept::NONE;
+    }
     regs[i] = v;
     Kept {
         number: n,
@@ -161,153 +141,108 @@ fn load(regs: &mut [u32; 256], p: u32, n: u32, v: u32) -> Kept
 
 // A store of v at x and a load of register n from y, where both can be.
 fn store_and_load(
-    part: &mut [u32],
-    regs: &mut [u32; 256],
+    step: &mut Step,
     cells: &mut [u32],
     host: &[u32; 5],
-    s: u32,
     n: u32,
     v: u32,
     x: u32,
     y: u32,
-) -> u32
+)
     requires allowed { (n < 256) × (illegal_load y ≡ false) × (illegal_store x v ≡ false) }
     requires within { (x < first_special → x < length cells.old) × (y < first_special → y < length cells.old) }
-    ensures { (told : ℕ) → left regs.new cells.new part.new result told
-        ≡ done_by told (transfer_of n v x y (before regs.old s host.now cells.old part.old))
-        (before regs.old s host.now cells.old part.old) }
+    ensures lent { Lent step.old step.new }
+    ensures left { left_in step.new cells.new
+        ≡ done_by step.old.told (transfer_of n v x y (before_in step.old host.now cells.old)) (before_in step.old host.now cells.old) }
 {
-    let pc = regs[255];
-    let settings = unpack(s);
+    let settings = unpack(step.settings);
+    let found = entry_at(step.regs[255], step.settings);
     let got = behind_pointer(cells, settings, host, y);
     let stored = store(cells, x, v);
-    let loaded = load(regs, y, n, got);
+    let loaded = load(step.regs, y, n, got);
     let entry = Entry {
-        pc,
-        settings: s,
         numbers: loaded.number,
         a: loaded.old,
-        b: 0,
         address: stored.number,
         old: stored.old,
         uses: loaded.uses + stored.uses,
+        ..found
     };
-    enter(part, entry);
-    pack(resettled(x, v, settings))
+    enter(step.part, entry);
+    step.settings = pack(resettled(x, v, settings));
 }
 
-// LDST whatever its pointers are.
-fn transfer_any(
-    part: &mut [u32],
-    regs: &mut [u32; 256],
-    cells: &mut [u32],
-    host: &[u32; 5],
-    s: u32,
-    cell: u32,
-    told: &mut u32,
-) -> u32
-    ensures { left regs.new cells.new part.new result told.new
-        ≡ left_of told.old (Ldst (n_of cell) (m_of cell) (l_of cell)) (before regs.old s host.now cells.old part.old) }
+// LDST whatever its pointers are. Why | and not ||, `carried::is_fault` says.
+fn transfer_any(step: &mut Step, cells: &mut [u32], host: &[u32; 5], cell: u32)
+    ensures lent { Lent step.old step.new }
+    ensures left { left_in step.new cells.new
+        ≡ left_of step.old.told (Ldst (n_of cell) (m_of cell) (l_of cell)) (before_in step.old host.now cells.old) }
 {
     let n = n_of(cell);
-    let v = operand(regs, n);
-    let x = operand(regs, m_of(cell));
-    let y = operand(regs, l_of(cell));
+    let v = operand(step.regs, n);
+    let x = operand(step.regs, m_of(cell));
+    let y = operand(step.regs, l_of(cell));
     if is_fault(cells.len(), y) | is_fault(cells.len(), x) {
-        *told = Told::FAULT;
-        return s;
+        step.refuse(Told::FAULT);
+        return;
     }
     if illegal_load(y) | illegal_store(x, v) {
-        return illegal(part, regs, s, told);
+        step.illegal();
+        return;
     }
-    store_and_load(part, regs, cells, host, s, n, v, x, y)
+    store_and_load(step, cells, host, n, v, x, y);
 }
 
 // Cells that are below the special addresses.
 fn memory(size: usize) -> usize
     ensures { result ≡ min size first_special }
 {
-    if size < 0xFFFF0000 {
-        return size;
-    }
-    0xFFFF0000
-}
-
-// The entry of a load alone, into register n.
-fn load_entry(pc: u32, s: u32, n: u32, old: u32) -> Entry
-    ensures { result ≡ entry_by pc s n old 0 0 1 }
-{
-    Entry {
-        pc,
-        settings: s,
-        numbers: n,
-        a: old,
-        b: 0,
-        address: 0,
-        old: 0,
-        uses: 1,
-    }
-}
-
-// The entry of a store alone, at p.
-fn store_entry(pc: u32, s: u32, p: u32, old: u32) -> Entry
-    ensures { result ≡ entry_by pc s 0 0 p old 4 }
-{
-    Entry {
-        pc,
-        settings: s,
-        numbers: 0,
-        a: 0,
-        b: 0,
-        address: p,
-        old,
-        uses: 4,
-    }
+    size.min(0xFFFF0000)
 }
 
 // LDST: a load from memory alone and a store to memory alone go the short way.
-pub fn transfer(
-    part: &mut [u32],
-    regs: &mut [u32; 256],
-    cells: &mut [u32],
-    host: &[u32; 5],
-    s: u32,
-    cell: u32,
-    told: &mut u32,
-) -> u32
-    ensures { length regs.old ≡ 256 → left regs.new cells.new part.new result told.new
-        ≡ left_of told.old (Ldst (n_of cell) (m_of cell) (l_of cell)) (before regs.old s host.now cells.old part.old) }
+pub fn transfer(step: &mut Step, cells: &mut [u32], host: &[u32; 5], cell: u32)
+    ensures lent { Lent step.old step.new }
+    ensures left { left_in step.new cells.new
+        ≡ left_of step.old.told (Ldst (n_of cell) (m_of cell) (l_of cell)) (before_in step.old host.now cells.old) }
 {
     let n = n_of(cell);
     let i = n as usize;
     let m = m_of(cell) as usize;
     let l = l_of(cell) as usize;
-    let pc = regs[255];
-    let old = regs[i];
-    regs[255] = next_of(pc);
-    let y = regs[l];
-    let x = regs[m];
+    let old = step.regs[i];
+    let pc = advance(step.regs);
+    let y = step.regs[l];
+    let x = step.regs[m];
     let size = memory(cells.len());
     if x == 0 {
         let k = index_of(y);
-        if 0 < k {
-            if k < size {
-                let v = cells[k];
-                enter(part, load_entry(pc, s, n, old));
-                regs[i] = v;
-                return s;
-            }
+        if 0 < k && k < size {
+            let v = cells[k];
+            let entry = Entry {
+                numbers: n,
+                a: old,
+                uses: 1,
+                ..entry_at(pc, step.settings)
+            };
+            enter(step.part, entry);
+            step.regs[i] = v;
+            return;
         }
-    } else {
-        if y == 0 {
-            let k = index_of(x);
-            if k < size {
-                enter(part, store_entry(pc, s, x, cells[k]));
-                cells[k] = regs[i];
-                return s;
-            }
+    } else if y == 0 {
+        let k = index_of(x);
+        if k < size {
+            let entry = Entry {
+                address: x,
+                old: cells[k],
+                uses: 4,
+                ..entry_at(pc, step.settings)
+            };
+            enter(step.part, entry);
+            cells[k] = step.regs[i];
+            return;
         }
     }
-    regs[255] = pc;
-    transfer_any(part, regs, cells, host, s, cell, told)
+    step.regs[255] = pc;
+    transfer_any(step, cells, host, cell);
 }

@@ -1,14 +1,14 @@
 -- Little-endian numbers over the width: one byte more, their bound, and that they are read as they were written.
 -- Assumes nothing.
 use Prim.Native.Nat.{ℕ, zero, suc, ◌+◌, ◌-◌, ◌*◌, ◌/◌, ◌%◌, ◌^◌, ◌≤◌, ◌<◌, min}
-use mathlib.Core.Path.{◌≡◌, refl, sym, ap, ◌∙◌}
+use mathlib.Core.Path.{◌≡◌, refl, sym, ap, ◌∙◌, subst}
 use mathlib.Core.Bool.{Bool, true, false}
-use mathlib.Core.List.{List, [], ◌∷◌, ◌++◌}
-use native.Mathlib.Nat.{add-zero, sub-zero}
+use mathlib.Core.List.{List, [], ◌∷◌, ◌++◌, append-nil, append_assoc}
 use native.Mathlib.Omega.{arith}
 use lib.Dec.{ltb}
-use lib.ListN.{length, get_or, take, drop, length-drop, drop_of_length-le}
-use lib.Seq.{drop-cons, take_all}
+use lib.ListN.{length, take, drop, length-append, length-drop, drop_of_length-le}
+use lib.Seq.{take_all, drop-append_seam}
+use Rattle.std.specs.Int.{w32, to_le_bytes}
 use borrow.Author.Tests.{ltb-true, ltb-false}
 use Rattle.lent.specs.Little.{Bytes, little_of, bytes_of, number_at}
 
@@ -57,22 +57,43 @@ below_4 at (suc (suc (suc zero))) l h b = omega (arith, little_below 3 (drop at 
 below_4 at (suc (suc (suc (suc zero)))) l h b = omega (arith, little_below 4 (drop at l) (bytes_drop at l b))
 below_4 at (suc (suc (suc (suc (suc w))))) l h b = absurd (omega arith)
 
--- one byte more, from the last to the first
-pub number_turn : (l : List ℕ) (at width i v : ℕ) → 0 < i → i ≤ width → at + width ≤ length l → v ≡ number_at (at + i) (width - i) l
-    → 256 * v + get_or l (at + (i - 1)) 0 ≡ number_at (at + (i - 1)) (width - (i - 1)) l
-unfolding number_at little_of
-number_turn l at width i v p q r e =
-    let w : width - (i - 1) ≡ suc (width - i) = omega arith in
-    let n : suc (at + (i - 1)) ≡ at + i = omega arith in
-    let d : drop (at + (i - 1)) l ≡ get_or l (at + (i - 1)) 0 ∷ drop (suc (at + (i - 1))) l = drop-cons l (at + (i - 1)) 0 (omega arith) in
-    rw (w, d, n, e) (omega arith)
+-- four bytes hold a number below 2 ^ 32
+little_4 : (l : List ℕ) → length l ≤ 4 → Bytes l → little_of l < 2 ^ 32
+unfolding number_at
+little_4 l h b = rw (← take_all 4 l h) (below_4 0 4 l (omega arith) b)
 
-pub number_none : (l : List ℕ) (at width : ℕ) → 0 ≡ number_at (at + width) (width - width) l
-unfolding number_at little_of
-number_none l at width = let w : width - width ≡ 0 = omega arith in rw w
+-- Bytes that are read from the last to the first: those that are left, and the number of those that were taken.
+pub record Read (bytes left : List ℕ) (v : ℕ) : Type 0 where
+  pub taken : List ℕ
+  pub all : left ++ taken ≡ bytes
+  pub is : v ≡ little_of taken
 
-pub number_over : (l : List ℕ) (at width i v : ℕ) → v ≡ number_at (at + i) (width - i) l → i ≤ 0 → v ≡ number_at at width l
-number_over l at width i v e h = let z : i ≡ 0 = omega arith in e ∙ rw (z, add-zero, sub-zero)
+pub read_none : {bytes left : List ℕ} → left ≡ bytes → Read bytes left 0
+unfolding little_of
+read_none e = record { taken = []; all = append-nil _ ∙ e; is = refl }
+
+-- one byte more
+pub read_more : {bytes left : List ℕ} {v : ℕ} (rest : List ℕ) (b : ℕ) → Read bytes left v → left ≡ rest ++ (b ∷ []) → Read bytes rest (256 * v + b)
+unfolding little_of
+read_more rest b r e = record {
+  taken = b ∷ r.taken;
+  all = sym (append_assoc rest (b ∷ []) r.taken) ∙ ap (λ (l : List ℕ). l ++ r.taken) (sym e) ∙ r.all;
+  is = omega (arith, r.is);
+}
+
+read_below : {bytes left : List ℕ} {v : ℕ} → Read bytes left v → length bytes ≤ 4 → Bytes bytes → v < 2 ^ 32
+read_below {bytes} {left} r h b =
+    let d : drop (length left) bytes ≡ r.taken = ap (drop (length left)) (sym r.all) ∙ drop-append_seam left r.taken in
+    let n : length r.taken ≤ length bytes = omega (arith, simp length-append at (ap length r.all)) in
+    let t : Bytes r.taken = subst Bytes d (bytes_drop (length left) bytes b) in
+    rw r.is (little_4 r.taken (omega arith) t)
+
+pub more_fits : {bytes left : List ℕ} {v : ℕ} (rest : List ℕ) (b : ℕ) → Read bytes left v → left ≡ rest ++ (b ∷ []) → length bytes ≤ 4 → Bytes bytes → 256 * v + b < 2 ^ 32
+more_fits rest b r e = read_below (read_more rest b r e)
+
+pub read_all : {bytes : List ℕ} {v : ℕ} (left : List ℕ) → Read bytes left v → length left ≡ 0 → v ≡ little_of bytes
+read_all [] r e = r.is ∙ ap little_of r.all
+read_all (x ∷ left) r e = absurd (omega arith)
 
 -- a number is read as it was written
 pub length-bytes : (w v : ℕ) → length (bytes_of w v) ≡ w
@@ -98,11 +119,11 @@ little_bytes (suc w) v h =
     rw r (omega arith)
 
 -- the four bytes of a number, and the first of them
-pub four_bytes : (v : ℕ) → v < 2 ^ 32 → v % 256 ∷ v / 256 % 256 ∷ v / 65536 % 256 ∷ v / 16777216 ∷ [] ≡ bytes_of 4 v
+pub four_bytes : (v : ℕ) → v < 2 ^ 32 → to_le_bytes w32 v ≡ bytes_of 4 v
 unfolding bytes_of
 four_bytes v h =
     let third : v / 65536 ≡ v / 256 / 256 = omega arith in
-    let last : v / 16777216 ≡ v / 256 / 256 / 256 % 256 = omega arith in
+    let last : v / 16777216 ≡ v / 256 / 256 / 256 = omega arith in
     rw (third, last)
 
 pub first_bytes : (width k v : ℕ) → width ≤ k → take width (bytes_of k v) ≡ bytes_of width v
@@ -132,9 +153,12 @@ cut_take l width n e = by (ltb width (length l)) refl
         let s : length l ≤ n = omega arith in
         rw (take_all n l s, take_all width l q)
 
-pub number_cut : (l : List ℕ) (at width start count : ℕ) → start ≡ min at (length l) → count ≡ min width (length l - start) → number_at start count l ≡ number_at at width l
+pub number_cut : (l : List ℕ) (at width start count : ℕ) → start ≡ min at (length l) → count ≡ min width (length (take (length l - start) (drop start l)))
+    → little_of (take count (take (length l - start) (drop start l))) ≡ number_at at width l
 unfolding number_at
 number_cut l at width start count p q =
-    let d : drop start l ≡ drop at l = cut_drop l at start p in
-    let n : length (drop at l) ≡ length l - start = ap length (sym d) ∙ length-drop start l in
-    rw (d, cut_take (drop at l) width count (rw n q))
+    let e : take (length l - start) (drop start l) ≡ drop start l = take_all (length l - start) (drop start l) (omega (arith, length-drop start l)) in
+    let n : count ≡ min width (length (drop start l)) = q ∙ ap (λ (r : List ℕ). min width (length r)) e in
+    ap (λ (r : List ℕ). little_of (take count r)) e
+    ∙ ap little_of (cut_take (drop start l) width count n)
+    ∙ ap (λ (r : List ℕ). little_of (take width r)) (cut_drop l at start p)

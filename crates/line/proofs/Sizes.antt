@@ -3,12 +3,14 @@
 use mathlib.Core.Path.{◌≡◌, ap}
 use Prim.Native.Nat.{ℕ, ◌^◌, ◌<◌, ◌≤◌}
 use native.Mathlib.Omega.{arith}
-use lib.ListN.{length, length-append}
+use mathlib.Core.List.{List}
+use lib.ListN.{length, take, length-append}
 use Rattle.cell.specs.declared.Instruction.{Instruction}
 use Rattle.cell.specs.declared.Instruction.TheVariants.{Registers, Immediate, Reserved}
 use Rattle.cell.specs.Cell.{decode_of}
 use Rattle.cell.proofs.Fields.{InRange, decoded_in_range}
-use Rattle.text.specs.Text.{decimal}
+use Rattle.text.specs.Text.{decimal, Added}
+use Rattle.text.proofs.Adds.{added_front}
 use Rattle.text.proofs.Decimal.{decimal_length}
 use Rattle.mnemonic.specs.Mnemonic.{word_of}
 use Rattle.mnemonic.proofs.Words.{word_short}
@@ -38,3 +40,7 @@ spelled_short (Reserved c) s = simp length-append (omega arith)
 pub line_short : (c : ℕ) → c < 2 ^ 32 → length (line_of c) ≤ 24
 unfolding line_of
 line_short c h = spelled_short (decode_of c) (in_range_sized (decode_of c) (decoded_in_range c h))
+
+-- the line that is put into room for the longest
+pub line_put : {c : ℕ} {l m : List ℕ} {k : ℕ} → c < 2 ^ 32 → length l ≡ 24 → Added l 0 (line_of c) m k → (k ≡ length (line_of c)) × (take k m ≡ line_of c)
+line_put {c} h e a = added_front (line_of c) (omega (arith, line_short c h)) a

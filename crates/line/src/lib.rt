@@ -1,4 +1,4 @@
-// A cell as a line of text: printing it into lent room.
+// A cell as a line of text: printing it into lent room. A text and its places are apart, as `text` says.
 
 #![tactic(auto)]
 
@@ -12,12 +12,9 @@ use cell::Instruction;
 use mnemonic::put_word;
 use text::{put, put_number};
 
-// What printing answers: the line's length, or refusal 31 for lack of room.
-#[derive(Clone, Copy)]
-pub enum Printed {
-    Length(usize),
-    NoRoom,
-}
+// Refusal 31 of a printing: the room is shorter than the line.
+#[derive(Clone, Copy, Debug, PartialEq, Eq)]
+pub struct NoRoom;
 
 // Puts the line of an instruction with three registers.
 fn put_registers(line: &mut [u8; 24], opcode: u8, n: u8, m: u8, l: u8) -> usize
@@ -49,26 +46,27 @@ fn put_reserved(line: &mut [u8; 24], cell: u32) -> usize
 }
 
 // Puts a cell's line into room for the longest, and answers its length.
+#[tactic(auto, unfolding(crate::specs::Line::line_of))]
 pub fn put_line(line: &mut [u8; 24], cell: u32) -> usize
     ensures { Added line.old 0 (line_of cell) line.new result }
 {
-    let instruction = cell::decode(cell);
-    match instruction {
+    match cell::decode(cell) {
         Instruction::Registers { opcode, n, m, l } => put_registers(line, opcode, n, m, l),
         Instruction::Immediate { opcode, n, imm } => put_immediate(line, opcode, n, imm),
         Instruction::Reserved(whole) => put_reserved(line, whole),
     }
 }
 
-// Prints a cell's line into lent room. What stands past the line is kept.
-pub fn print(cell: u32, room: &mut [u8]) -> Printed
+// Prints a cell's line into lent room, and answers its length. What stands past the line is kept.
+#[tactic(auto, using(crate::proofs::Sizes::line_put, crate::proofs::Lines::unprinted))]
+pub fn print(cell: u32, room: &mut [u8]) -> Result<usize, NoRoom>
     ensures { shown_of result room.new ≡ print_of cell room.old }
 {
     let mut line = [0u8; 24];
     let size = put_line(&mut line, cell);
     if room.len() < size {
-        return Printed::NoRoom;
+        return Err(NoRoom);
     }
-    put(room, 0, &line[..size]);
-    Printed::Length(size)
+    room[..size].copy_from_slice(&line[..size]);
+    Ok(size)
 }

@@ -24,7 +24,7 @@ impl Address {
 }
 
 // The flags, the trap mask and the rounding mode.
-#[derive(Clone, Copy)]
+#[derive(Clone, Copy, PartialEq, Eq)]
 pub struct Settings {
     pub flags: u32,
     pub mask: u32,
@@ -53,6 +53,7 @@ impl Machine {
     pub const MOST_ENTRIES: u32 = 65536;
 
     // All is 0, but for rounding mode 3.
+    #[tactic(auto, unfolding(crate::specs::State::fresh_machine))]
     pub fn fresh() -> Self
         ensures { result ≡ fresh_machine }
     {
@@ -69,7 +70,7 @@ impl Machine {
     }
 }
 
-// A run: plain, or of the profile that only goes forward, whose code is so many cells from cell 0 on.
+// A run, by its own name and no `Option`, as the definitions take it: plain, or of the profile that only goes forward, whose code is so many cells from cell 0 on.
 #[derive(Clone, Copy)]
 pub enum Kind {
     Plain,
@@ -77,7 +78,7 @@ pub enum Kind {
 }
 
 // Why a call stopped, in the order of the stops' numbers: 0 to 13, 60 to 62.
-#[derive(Clone, Copy)]
+#[derive(Clone, Copy, Debug, PartialEq, Eq)]
 pub enum Stop {
     Done,
     Ended,
@@ -99,7 +100,7 @@ pub enum Stop {
 }
 
 impl Stop {
-    // A stop's number.
+    // A stop's number: a method, as the documents speak of it; a `From` would be no plainer.
     pub fn number(self) -> u64
         ensures { result ≡ (said_of self).number }
     {
@@ -129,44 +130,27 @@ impl Stop {
 pub fn good_cells(m: usize) -> bool
     ensures { result ≡ not (bad_cells m) }
 {
-    if m == 0 {
-        return false;
-    }
-    if Machine::MOST_CELLS < m {
-        return false;
-    }
-    true
+    0 < m && m <= Machine::MOST_CELLS
 }
 
 // Whether settings are in range.
 pub fn good_settings(s: Settings) -> bool
     ensures { result ≡ not (bad_settings s) }
 {
-    if Settings::FLAGS_BOUND <= s.flags {
-        return false;
-    }
-    if Settings::FLAGS_BOUND <= s.mask {
-        return false;
-    }
-    if Settings::MODE_BOUND <= s.mode {
-        return false;
-    }
-    true
+    s.flags < Settings::FLAGS_BOUND
+        && s.mask < Settings::FLAGS_BOUND
+        && s.mode < Settings::MODE_BOUND
 }
 
 // J of a journal of so many words.
+#[tactic(auto, unfolding(crate::specs::State::entries_in))]
 pub fn capacity(words: usize) -> u32
     ensures { result ≡ entries_in words }
 {
-    let entries = words / 8;
-    if entries < Machine::MOST_ENTRIES as usize {
-        entries as u32
-    } else {
-        Machine::MOST_ENTRIES
-    }
+    (words / 8).min(Machine::MOST_ENTRIES as usize) as u32
 }
 
-// A word as an index of cells.
+// A word as an index of cells. It stays a function, since what it promises has edits of its own.
 pub fn index_of(x: u32) -> usize
     ensures { result ≡ x }
 {

@@ -2,82 +2,64 @@
 
 #![tactic(auto)]
 
-ghost use Rattle.std.specs.Prelude.{◌≡◌, List, ℕ, ◌<◌, length, get_or};
+ghost use Rattle.std.specs.Prelude.{◌≡◌, List, ℕ, ◌<◌, get_or};
 ghost use Rattle.half.specs.declared.Extension.TheVariants.{Se};
 ghost use Rattle.word.specs.Word.{written_of};
 ghost use Rattle.cell.specs.Cell.{n_of, m_of, l_of, imm_of};
 ghost use Rattle.effect.specs.Action.{R, Extended, Operate};
-ghost use Rattle.carried.specs.Left.{left, left_of, before};
+ghost use Rattle.carried.specs.Left.{left_of};
 ghost use Rattle.carried.specs.Operated.{Operated};
+ghost use Rattle.carried.specs.Step.{Lent, left_in, before_in};
 ghost use Rattle.packed.specs.Packed.{unpacked_of};
 
-use carried::{keep_n, put};
+use carried::Step;
 use cell::{imm_of, l_of, m_of};
+use half::se;
 use packed::flags_of;
 use word::{Op, operate};
 
 // Register n gets what an operation makes of x and y; it also sees the old Rn and the flags.
-fn finish(regs: &mut [u32; 256], s: u32, told: &mut u32, n: u32, op: Op, x: u32, y: u32) -> u32
+fn finish(step: &mut Step, n: u32, op: Op, x: u32, y: u32)
     requires { n < 256 }
-    ensures { Operated (written_of op x y (get_or regs.old n 0) (unpacked_of s).flags) n s regs.old regs.new told.old told.new result }
+    ensures lent { Lent step.old step.new }
+    ensures part { step.new.part.now ≡ step.old.part.now }
+    ensures operated { Operated (written_of op x y (get_or step.old.regs.now n 0) (unpacked_of step.old.settings).flags) n
+        step.old.settings step.old.regs.now step.new.regs.now step.old.told step.new.told step.new.settings }
 {
-    let i = n as usize;
-    let w = operate(op, x, y, regs[i], flags_of(s));
-    put(regs, s, told, n, w)
+    let old = step.regs[n as usize];
+    step.put(n, operate(op, x, y, old, flags_of(step.settings)));
 }
 
-// 16 to 34: Rm and Rl.
-pub fn registers(
-    part: &mut [u32],
-    regs: &mut [u32; 256],
-    s: u32,
-    cell: u32,
-    told: &mut u32,
-    op: Op,
-) -> u32
-    ensures { (host cells : List ℕ) → length regs.old ≡ 256 → left regs.new cells part.new result told.new
-        ≡ left_of told.old (Operate op (n_of cell) (R (m_of cell)) (R (l_of cell))) (before regs.old s host cells part.old) }
+// 16 to 34: Rm and Rl. This and the two below each name their own two values and share the rest, `finish`.
+pub fn registers(step: &mut Step, cell: u32, op: Op)
+    ensures lent { Lent step.old step.new }
+    ensures left { (host cells : List ℕ) → left_in step.new cells
+        ≡ left_of step.old.told (Operate op (n_of cell) (R (m_of cell)) (R (l_of cell))) (before_in step.old host cells) }
 {
-    let n = keep_n(part, regs, s, cell);
-    let m = m_of(cell) as usize;
-    let l = l_of(cell) as usize;
-    let x = regs[m];
-    let y = regs[l];
-    finish(regs, s, told, n, op, x, y)
+    let n = step.keep_n(cell);
+    let x = step.regs[m_of(cell) as usize];
+    let y = step.regs[l_of(cell) as usize];
+    finish(step, n, op, x, y);
 }
 
 // 35 to 51: Rn and se(imm).
-pub fn immediate(
-    part: &mut [u32],
-    regs: &mut [u32; 256],
-    s: u32,
-    cell: u32,
-    told: &mut u32,
-    op: Op,
-) -> u32
-    ensures { (host cells : List ℕ) → length regs.old ≡ 256 → left regs.new cells part.new result told.new
-        ≡ left_of told.old (Operate op (n_of cell) (R (n_of cell)) (Extended Se (imm_of cell))) (before regs.old s host cells part.old) }
+pub fn immediate(step: &mut Step, cell: u32, op: Op)
+    ensures lent { Lent step.old step.new }
+    ensures left { (host cells : List ℕ) → left_in step.new cells
+        ≡ left_of step.old.told (Operate op (n_of cell) (R (n_of cell)) (Extended Se (imm_of cell))) (before_in step.old host cells) }
 {
-    let n = keep_n(part, regs, s, cell);
-    let i = n as usize;
-    let x = regs[i];
-    finish(regs, s, told, n, op, x, half::se(imm_of(cell)))
+    let n = step.keep_n(cell);
+    let x = step.regs[n as usize];
+    finish(step, n, op, x, se(imm_of(cell)));
 }
 
 // 52 and 53: the same two values, turned.
-pub fn turned(
-    part: &mut [u32],
-    regs: &mut [u32; 256],
-    s: u32,
-    cell: u32,
-    told: &mut u32,
-    op: Op,
-) -> u32
-    ensures { (host cells : List ℕ) → length regs.old ≡ 256 → left regs.new cells part.new result told.new
-        ≡ left_of told.old (Operate op (n_of cell) (Extended Se (imm_of cell)) (R (n_of cell))) (before regs.old s host cells part.old) }
+pub fn turned(step: &mut Step, cell: u32, op: Op)
+    ensures lent { Lent step.old step.new }
+    ensures left { (host cells : List ℕ) → left_in step.new cells
+        ≡ left_of step.old.told (Operate op (n_of cell) (Extended Se (imm_of cell)) (R (n_of cell))) (before_in step.old host cells) }
 {
-    let n = keep_n(part, regs, s, cell);
-    let i = n as usize;
-    let x = regs[i];
-    finish(regs, s, told, n, op, half::se(imm_of(cell)), x)
+    let n = step.keep_n(cell);
+    let x = step.regs[n as usize];
+    finish(step, n, op, se(imm_of(cell)), x);
 }

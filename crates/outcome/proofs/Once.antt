@@ -2,31 +2,29 @@
 use mathlib.Core.Path.{◌≡◌, refl, sym, ap, ◌∙◌}
 use mathlib.Core.List.{List}
 use Prim.Native.Nat.{ℕ}
+use Rattle.machine.specs.declared.Machine.{Machine}
 use Rattle.machine.proofs.Named.{heard, heard_said}
 use Rattle.text.proofs.Adds.{once as added-once}
-use Rattle.outcome.specs.declared.End as code
-use Rattle.outcome.specs.declared.End.TheVariants.{Refused, Ran}
-use Rattle.outcome.specs.declared.Outcome as value
+use Rattle.std.specs.Prelude.{Result, Ok, Err}
+use Rattle.call.specs.declared.Ran.{Ran}
+use Rattle.intake.specs.declared.Refused.{Refused}
 use Rattle.outcome.specs.Outcome.{End, refused, ran, Outcome}
-use Rattle.outcome.specs.Answers.{end_of, outcome_with}
+use Rattle.outcome.specs.Answers.{outcome_with}
 use Rattle.outcome.specs.Told.{Told}
 
 -- the code's answer, from what is said of it
-abbrev ended : End → code.End
-ended (refused number offset) = Refused number offset
-ended (ran said count) = Ran (heard said) count
+abbrev ended : End → Machine → Result Ran Refused
+ended (refused number offset) machine = Err (record { number = number; offset = offset })
+ended (ran said count) machine = Ok (record { machine = machine; stop = heard said; count = count })
 
-ended_end : (e : code.End) → ended (end_of e) ≡ e
-ended_end (Refused number offset) = refl
-ended_end (Ran stop count) = rw (heard_said stop)
+abbrev answered : Outcome → Result Ran Refused
+answered o = ended o.end o.machine
 
-abbrev answered : Outcome → value.Outcome
-answered o = record { end = ended o.end; machine = o.machine }
+answered_with : (r : Result Ran Refused) (cells journal : List ℕ) → answered (outcome_with r cells journal) ≡ r
+answered_with (Ok r) cells journal = rw (heard_said r.stop)
+answered_with (Err r) cells journal = refl
 
-answered_with : (r : value.Outcome) (cells journal : List ℕ) → answered (outcome_with r cells journal) ≡ r
-answered_with r cells journal = rw (ended_end r.end)
-
-pub run_once : (o : Outcome) (r t : value.Outcome) (cells cells' journal journal' : List ℕ) → outcome_with r cells journal ≡ o → outcome_with t cells' journal' ≡ o
+pub run_once : (o : Outcome) (r t : Result Ran Refused) (cells cells' journal journal' : List ℕ) → outcome_with r cells journal ≡ o → outcome_with t cells' journal' ≡ o
     → (r ≡ t) × (cells ≡ cells') × (journal ≡ journal')
 run_once o r t cells cells' journal journal' p q =
     let e = p ∙ sym q in

@@ -1,12 +1,12 @@
 -- What becomes of a job that `runjob` runs: document 01, 'Lines and jobs', its last part; the host's words: document 02, 2026-05.
-use Rattle.std.specs.Prelude.{cond, List, ℕ, ltb, eqb, length}
+use Rattle.std.specs.Prelude.{cond, List, ℕ, eqb}
 use Rattle.machine.specs.declared.Machine.{Machine}
 use Rattle.machine.specs.declared.Kind.TheVariants.{Plain}
-use Rattle.machine.specs.State.{fresh_host, fresh_machine, machine_of, state_of}
+use Rattle.machine.specs.State.{fresh_machine, machine_of, state_of}
 use Rattle.machine.specs.Stops.{Said}
-use Rattle.intake.specs.Intake.{most_input}
+use Rattle.intake.specs.Intake.{taken_of}
 use Rattle.call.specs.Calls.{Out, run_of}
-use Rattle.job.specs.Job.{Load, load_of}
+use Rattle.job.specs.Job.{Load}
 
 -- what is lent and granted: entries of eight words, and the budget
 abbrev pub entry_count : ℕ
@@ -45,8 +45,6 @@ loaded_to l journal =
     cond (eqb l.said.number 0) (ran_to (run_of Plain budget (state_of l.machine l.cells journal)))
     (refused_to l.said.number l.said.offset l.cells journal)
 
--- a longer input is refused with 50 at 32768, whatever it holds; the host's words are zeros
+-- an input that is not taken in is refused; else its job is run
 unfoldable pub outcome_of : List ℕ → List ℕ → List ℕ → Outcome
-outcome_of input cells journal =
-    cond (ltb most_input (length input)) (refused_to 50 most_input cells journal)
-    (loaded_to (load_of input fresh_host cells) journal)
+outcome_of input cells journal = loaded_to (taken_of input cells) journal

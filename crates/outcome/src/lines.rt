@@ -1,13 +1,13 @@
-// The text of an outcome, line by line.
+// The text of an outcome, line by line. A text and its places are apart, as `text` says.
 ghost use Rattle.std.specs.Prelude.{◌≤◌, ◌<◌, length, take};
 ghost use Rattle.machine.specs.Stops.{said_of};
 ghost use Rattle.text.specs.Text.{Added};
 ghost use Rattle.outcome.specs.Told.{exit_text, register_text, registers_text, ran_text, Told};
 
-use machine::{Machine, Stop};
+use call::Ran;
 use text::{put, put_number};
 
-// Puts the line of a run.
+// Puts the line of a run: its four numbers are taken one by one, as `exit_text` takes them.
 fn put_exit(text: &mut [u8], at: usize, stop: u64, count: u64, pc: u32, flags: u32) -> usize
     ensures added { Added text.old at (exit_text stop count pc flags) text.new result }
     ensures short { length (exit_text stop count pc flags) ≤ 84 }
@@ -40,20 +40,25 @@ fn put_registers(text: &mut [u8], at: usize, regs: &[u32; 256]) -> usize
     ensures short { length (registers_text 0 (take 255 regs.now)) ≤ 4080 }
 {
     let mut end = at;
-    let mut i = 0;
-    while i < 255 {
-        end = put_register(text, end, i, regs[i]);
-        i += 1;
+    for (i, value) in regs[..255].iter().enumerate() {
+        end = put_register(text, end, i, *value);
     }
     end
 }
 
 // Puts the lines of a run.
-pub(crate) fn put_ran(text: &mut [u8], at: usize, stop: Stop, count: u64, m: Machine) -> usize
-    ensures { Told text.old at (ran_text (said_of stop).number count m) text.new result }
+pub(crate) fn put_ran(text: &mut [u8], at: usize, ran: &Ran) -> usize
+    ensures { Told text.old at (ran_text (said_of ran.now.stop).number ran.now.count ran.now.machine) text.new result }
 {
-    let regs = m.regs;
-    let settings = m.settings;
-    let a = put_exit(text, at, stop.number(), count, regs[255], settings.flags);
-    put_registers(text, a, &regs)
+    let machine = &ran.machine;
+    let flags = machine.settings.flags;
+    let a = put_exit(
+        text,
+        at,
+        ran.stop.number(),
+        ran.count,
+        machine.regs[255],
+        flags,
+    );
+    put_registers(text, a, &machine.regs)
 }

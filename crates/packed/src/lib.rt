@@ -1,6 +1,6 @@
 // Settings as one word, as word 1 of an entry has them: the flags lowest, then the mask, then the mode.
 
-#![tactic(auto)]
+#![tactic(auto, unfolding(crate::specs::Packed::packed_of, crate::specs::Packed::unpacked_of))]
 
 ghost use Rattle.std.specs.Prelude.{◌≡◌};
 ghost use Rattle.packed.specs.Packed.{packed_of, unpacked_of};
@@ -18,7 +18,7 @@ impl Packed {
     pub const BOUND: u32 = MODE_UNIT * Settings::MODE_BOUND;
 }
 
-// The word that settings make.
+// The word that settings make. The sum is the definition's, in 64 bits: five wrapping operations would say it less plainly.
 pub fn pack(s: Settings) -> u32
     ensures { result ≡ packed_of s }
 {

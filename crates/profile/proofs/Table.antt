@@ -6,13 +6,14 @@ use mathlib.Core.Logic.{⊎_elim}
 use mathlib.Core.List.{List, [], ◌∷◌}
 use native.Mathlib.Nat.{eq-or-lt_of_le, le_of_suc-le-suc}
 use native.Mathlib.Omega.{arith}
-use Rattle.profile.specs.declared.Judged.{Judged}
+use Rattle.std.specs.Prelude.{Result, ⊤}
+use Rattle.profile.specs.declared.Flaw.{Flaw}
 
-abbrev pub table : (ℕ → Judged) → ℕ → List Judged
+abbrev pub table : (ℕ → Result ⊤ Flaw) → ℕ → List (Result ⊤ Flaw)
 table f zero = []
 table f (suc n) = f n ∷ table f n
 
-pub agree : (f g : ℕ → Judged) (n : ℕ) → table f n ≡ table g n → (x : ℕ) → x < n → f x ≡ g x
+pub agree : (f g : ℕ → Result ⊤ Flaw) (n : ℕ) → table f n ≡ table g n → (x : ℕ) → x < n → f x ≡ g x
 agree f g zero e x h = absurd (omega arith)
 agree f g (suc n) e x h =
     let last : f n ≡ g n = cc in

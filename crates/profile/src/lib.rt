@@ -3,12 +3,17 @@
 #![tactic(auto)]
 
 ghost use Rattle.std.specs.Prelude.{◌≡◌};
+ghost use Rattle.std.specs.Prelude.{Ok, Err};
+ghost use Rattle.std.proofs.Math.Option.{some};
+ghost use Rattle.machine.specs.Stops.{said_of};
 ghost use Rattle.profile.specs.Profile.{into, ahead, judged_of, rule_of};
+ghost use Rattle.profile.specs.Answers.{barred_by};
 
 use cell::{Form, form_of, imm_of, l_of, m_of, n_of, opcode_of};
+use machine::Stop;
 
 // Why a cell is not allowed: its opcode is reserved, or one of 80 to 106; it is an INT; it is a BZ that goes back; R255 is its target.
-#[derive(Clone, Copy)]
+#[derive(Clone, Copy, Debug, PartialEq, Eq)]
 pub enum Flaw {
     Reserved,
     Float,
@@ -17,90 +22,80 @@ pub enum Flaw {
     Target,
 }
 
-// What a profile says of a cell.
-#[derive(Clone, Copy)]
-pub enum Judged {
-    Allowed,
-    Flawed(Flaw),
+// Why a rule cannot be run as one that only goes forward: the number of its cells is 0 or there are fewer; or its first cell that is not
+// allowed, and why.
+#[derive(Clone, Copy, Debug, PartialEq, Eq)]
+pub enum BadRule {
+    Length,
+    Cell { place: usize, flaw: Flaw },
 }
 
-// What a profile says of the cells from 0 on that are a rule's code: all are allowed; their number is 0 or there are fewer; or the first
-// that is not allowed, and why.
-#[derive(Clone, Copy)]
-pub enum Rule {
-    ForwardOnly,
-    BadLength,
-    BadCell { place: usize, flaw: Flaw },
+// Stop 60 of a profile run has the place of the first bad cell, and 0 for a bad length.
+impl From<BadRule> for Stop {
+    ghost from_gives = { λ bad stop. some (said_of stop) ≡ barred_by (Err bad) };
+
+    fn from(bad: BadRule) -> Stop {
+        match bad {
+            BadRule::Length => Stop::Barred { place: 0 },
+            BadRule::Cell { place, flaw: _ } => Stop::Barred { place },
+        }
+    }
 }
 
-// A register that is a target: R255 may not be one, and of another the rest is asked.
-fn aim(i: u32, rest: Judged) -> Judged
-    ensures { result ≡ into i rest }
+// A register that is a target: R255 may not be one.
+fn aim(i: u32) -> Result<(), Flaw>
+    ensures { result ≡ into i (Ok tt) }
 {
     if i == 255 {
-        return Judged::Flawed(Flaw::Target);
+        return Err(Flaw::Target);
     }
-    rest
+    Ok(())
 }
 
 // A branch: it may not go back.
-fn branch(imm: u16) -> Judged
+fn branch(imm: u16) -> Result<(), Flaw>
     ensures { result ≡ ahead imm }
 {
     if 32767 < imm {
-        return Judged::Flawed(Flaw::Back);
+        return Err(Flaw::Back);
     }
-    Judged::Allowed
+    Ok(())
 }
 
 // Whether a profile allows a cell.
-pub fn judge(cell: u32) -> Judged
+pub fn judge(cell: u32) -> Result<(), Flaw>
     ensures { result ≡ judged_of cell }
 {
     let opcode = opcode_of(cell);
-    let form = form_of(opcode as u8);
     let n = n_of(cell);
     let m = m_of(cell);
     let l = l_of(cell);
     let imm = imm_of(cell);
-    if let Form::Reserved = form {
-        return Judged::Flawed(Flaw::Reserved);
+    if let Form::Reserved = form_of(opcode as u8) {
+        return Err(Flaw::Reserved);
     }
-    if (80 <= opcode) & (opcode <= 106) {
-        return Judged::Flawed(Flaw::Float);
+    match opcode {
+        80..=106 => Err(Flaw::Float),
+        122 => Err(Flaw::Int),
+        121 => branch(imm),
+        0 => aim(n).and(aim(l)),
+        54 | 107 => aim(m).and(aim(l)),
+        4 if imm == 65535 => Ok(()),
+        _ => aim(n),
     }
-    if opcode == 122 {
-        return Judged::Flawed(Flaw::Int);
-    }
-    if opcode == 121 {
-        return branch(imm);
-    }
-    if opcode == 0 {
-        return aim(n, aim(l, Judged::Allowed));
-    }
-    if (opcode == 54) | (opcode == 107) {
-        return aim(m, aim(l, Judged::Allowed));
-    }
-    if (opcode == 4) & (imm == 65535) {
-        return Judged::Allowed;
-    }
-    aim(n, Judged::Allowed)
 }
 
-// The first cell of a rule of so many cells that is not allowed.
-pub fn first_bad(cells: &[u32], l: usize) -> Rule
+// Whether a profile allows all of a rule's cells, so many from cell 0 on; the first that it does not allow, if one is not.
+pub fn first_bad(cells: &[u32], l: usize) -> Result<(), BadRule>
     ensures { result ≡ rule_of l cells.now }
 {
-    if (l == 0) | (cells.len() < l) {
-        return Rule::BadLength;
+    if l == 0 || cells.len() < l {
+        return Err(BadRule::Length);
     }
-    let mut place = 0;
-    while place < l {
-        let judged = judge(cells[place]);
-        if let Judged::Flawed(flaw) = judged {
-            return Rule::BadCell { place, flaw };
+    for (place, cell) in cells[..l].iter().enumerate() {
+        if let Err(flaw) = judge(*cell) {
+            return Err(BadRule::Cell { place, flaw });
         }
-        place += 1;
     }
-    Rule::ForwardOnly
+    Ok(())
 }

@@ -15,8 +15,8 @@ use Rattle.cell.specs.declared.Operands.TheVariants as operands
 use Rattle.cell.specs.Cell.{Reply, form_of, opcode_of, legal, immediate, decode_of, encode_of}
 use Rattle.cell.proofs.RoundTrip.{made, encode_registers, encode_immediate, decode_registers, decode_immediate, reserved_whole}
 use Rattle.cell.proofs.Fields.{InRange, decoded_in_range}
-use Rattle.reader.specs.declared.ReadLine.{ReadLine}
-use Rattle.reader.specs.declared.ReadLine.TheVariants.{Cell, NoLine}
+use Rattle.std.specs.Prelude.{Result, Ok, Err}
+use Rattle.reader.specs.declared.NoLine.{NoLine}
 use Rattle.text.specs.Text.{bytes, decimal}
 use Rattle.mnemonic.specs.Mnemonic.{word_of}
 use Rattle.line.specs.Line.{spelled, line_of}
@@ -199,15 +199,24 @@ read_true s {c} e =
     (t.0 ∙ r.0, r.1)
 
 -- an answer that is as `read_of` has it is as promised
-pub stated : (s : List ℕ) (r : ReadLine) → read_reply r ≡ read_of s → Reads s (read_reply r)
-stated s (Cell d) e =
+pub stated : (s : List ℕ) (r : Result ℕ NoLine) → read_reply r ≡ read_of s → Reads s (read_reply r)
+stated s (Ok d) e =
     let t : (s ≡ line_of d) × (d < 2 ^ 32) = read_true s (sym e) in
     record {
       cell = λ c h. (λ q. (read_true s (sym e ∙ q)).0, λ q. e ∙ ap read_of q ∙ read_back c h);
       refused = (λ q. not_made (sym q), λ q. absurd (q d t.1 t.0));
     }
-stated s NoLine e =
+stated s (Err n) e =
     record {
       cell = λ c h. (λ q. not_made q, λ q. not_made (e ∙ ap read_of q ∙ read_back c h));
       refused = (λ q c h p. not_made (e ∙ ap read_of p ∙ read_back c h), λ q. refl);
     }
+
+-- and so is what the parts answer
+pub reads_none : (s : List ℕ) → missing ≡ word_from 123 0 s → Reads s refused
+unfolding read_of
+reads_none s w = stated s (Err (record {})) (rw (← w))
+
+pub reads_rest : (s : List ℕ) {x : ℕ} {t : List ℕ} {f : Form} (r : Result ℕ NoLine) → taken x t ≡ word_from 123 0 s → f ≡ form_of x → read_reply r ≡ rest_of f x t → Reads s (read_reply r)
+unfolding read_of
+reads_rest s r w f e = stated s r (rw (← w, ← f) e)

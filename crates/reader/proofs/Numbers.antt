@@ -8,9 +8,11 @@ use native.Mathlib.Nat.{pow-succ'}
 use native.Mathlib.Numerals.{add-one}
 use native.Mathlib.Omega.{arith}
 use borrow.Author.Tests.{leb-true, le-leb, ltb-true, lt-ltb}
-use lib.Dec.{leb, ltb}
+use lib.Dec.{leb, ltb, lit<}
 use lib.ListN.{length, get_or, drop, drop_of_length-le}
 use lib.Seq.{drop-cons, drop-append_seam}
+use Rattle.std.specs.List.{between}
+use Rattle.std.proofs.lemmas.Slice.{between_to_end}
 use Rattle.cell.proofs.Tests.{never, both_left, both_right}
 use Rattle.text.specs.Text.{decimal}
 use Rattle.reader.specs.Reading.{taken, missing, digit, grows, at_most, run_onward, numeral_of, field_of}
@@ -27,42 +29,23 @@ grows_means limit v b e =
     let m : (48 ≤ b) × (b ≤ 57) = digit_means b (both_left (digit b) (ltb 0 v) d) in
     (m.0, m.1, ltb-true 0 v (both_right (digit b) (ltb 0 v) d), leb-true v limit (both_right (digit b && ltb 0 v) (leb v limit) e))
 
--- at a place of a text
-module _ (limit : ℕ) (s : List ℕ) (i : ℕ) where
-  pub number_none : length s ≤ i → numeral_of limit (drop i s) ≡ missing
-  unfolding numeral_of
-  number_none h = rw (drop_of_length-le s h)
-
-  pub run_end : (v : ℕ) → length s ≤ i → run_onward limit v (drop i s) ≡ at_most limit v (drop i s)
+-- at a place of the text after a number's first digit
+module _ (limit : ℕ) (s : List ℕ) (v i : ℕ) where
+  pub run_end : length s ≤ i → run_onward limit v (drop i s) ≡ at_most limit v []
   unfolding run_onward
-  run_end v h = rw (drop_of_length-le s h)
+  run_end h = rw (drop_of_length-le s h)
 
   module _ (h : i < length s) where
-    pub number_other : digit (get_or s i 0) ≡ false → numeral_of limit (drop i s) ≡ missing
-    unfolding numeral_of
-    number_other e = rw (drop-cons s i 0 h, e)
-
-    pub number_first : digit (get_or s i 0) ≡ true → numeral_of limit (drop i s) ≡ run_onward limit (get_or s i 0 - 48) (drop (i + 1) s)
-    unfolding numeral_of
-    number_first e = rw (add-one i, drop-cons s i 0 h, e)
-
-    pub run_stop : (v : ℕ) → grows limit v (get_or s i 0) ≡ false → run_onward limit v (drop i s) ≡ at_most limit v (drop i s)
+    pub run_stop : grows limit v (get_or s i 0) ≡ false → run_onward limit v (drop i s) ≡ at_most limit v (between i (length s) s)
     unfolding run_onward
-    run_stop v e = rw (drop-cons s i 0 h, e)
+    run_stop e = rw (between_to_end s i (length s) (omega arith), drop-cons s i 0 h, e)
 
-    pub run_step : (v : ℕ) → grows limit v (get_or s i 0) ≡ true → run_onward limit v (drop i s) ≡ run_onward limit (10 * v + (get_or s i 0 - 48)) (drop (i + 1) s)
+    pub run_step : grows limit v (get_or s i 0) ≡ true → run_onward limit v (drop i s) ≡ run_onward limit (10 * v + (get_or s i 0 - 48)) (drop (i + 1) s)
     unfolding run_onward
-    run_step v e = rw (add-one i, drop-cons s i 0 h, e)
+    run_step e = rw (add-one i, drop-cons s i 0 h, e)
 
--- a field is its sign and a number
-module _ (sign : List ℕ) (limit : ℕ) (s : List ℕ) where
-  pub field_has : begins sign s ≡ true → field_of sign limit s ≡ numeral_of limit (drop (length sign) s)
-  unfolding field_of
-  field_has e = rw e
-
-  pub field_lacks : begins sign s ≡ false → field_of sign limit s ≡ missing
-  unfolding field_of
-  field_lacks e = rw e
+-- a step of the code, and what keeps the value in its type
+pub ruleset steps = (run_end, run_stop, run_step, grows_means)
 
 -- the digits of v and the text s are those of w, which is within the limit, and the text t
 pub record Run (limit v : ℕ) (s : List ℕ) (w : ℕ) (t : List ℕ) : Type 0 where
@@ -160,7 +143,15 @@ module _ (limit : ℕ) (bound : limit < 2 ^ 32) where
   number_back n b t l e = run_on 9 n (b ∷ t) (omega arith) l ∙ run_ends n b t l e
 
   pub field_back : (sign : List ℕ) (n b : ℕ) (t : List ℕ) → n ≤ limit → digit b ≡ false → field_of sign limit (sign ++ (decimal n ++ b ∷ t)) ≡ taken n (b ∷ t)
+  unfolding field_of
   field_back sign n b t l e =
-      field_has sign limit (sign ++ (decimal n ++ b ∷ t)) (begins_append sign (decimal n ++ b ∷ t))
+      ap (λ (c : Bool). cond c (numeral_of limit (drop (length sign) (sign ++ (decimal n ++ b ∷ t)))) missing) (begins_append sign (decimal n ++ b ∷ t))
       ∙ ap (λ (s : List ℕ). numeral_of limit s) (drop-append_seam sign (decimal n ++ b ∷ t))
       ∙ number_back n b t l e
+
+-- the number of a field fits its type
+pub field_byte : (sign s : List ℕ) {v : ℕ} {t : List ℕ} → taken v t ≡ field_of sign 255 s → v < 256
+field_byte sign s e = omega (arith, (field_true 255 (lit< tt) sign s (sym e)).1)
+
+pub field_half : (sign s : List ℕ) {v : ℕ} {t : List ℕ} → taken v t ≡ field_of sign 65535 s → v < 65536
+field_half sign s e = omega (arith, (field_true 65535 (lit< tt) sign s (sym e)).1)

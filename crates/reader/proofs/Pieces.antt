@@ -1,33 +1,18 @@
--- How a text and a piece that may begin it are compared, byte by byte.
-use mathlib.Core.Path.{◌≡◌, sym}
-use mathlib.Core.Bool.{true, false}
+-- A text begins with a piece exactly if as many of its bytes as the piece has are the piece, byte by byte.
+use mathlib.Core.Path.{◌≡◌, refl}
 use mathlib.Core.List.{List, [], ◌∷◌}
-use Prim.Native.Nat.{ℕ, ◌+◌, ◌<◌, ◌≤◌}
-use native.Mathlib.Numerals.{add-one}
-use native.Mathlib.Omega.{arith}
-use borrow.Author.Tests.{eq-eqb, ne_eqb}
+use Prim.Native.Nat.{ℕ}
 use lib.Dec.{eqb}
-use lib.ListN.{length, get_or, drop, drop_of_length-le}
-use lib.Seq.{drop-cons}
-use Rattle.cell.proofs.Tests.{never, both_right}
+use lib.ListN.{length, take}
+use Rattle.std.specs.Cmp.Lexicographic.{pointwise}
+use Rattle.std.proofs.lemmas.Bool.Decides.{nat_tests}
+use native.Mathlib.Omega.{arith}
 use Rattle.mnemonic.specs.Inner.{begins}
 
-pub begins_length : (p s : List ℕ) → begins p s ≡ true → length p ≤ length s
-begins_length [] s e = omega arith
-begins_length (a ∷ p) [] e = never (cc)
-begins_length (a ∷ p) (b ∷ s) e = omega (arith, begins_length p s (both_right (eqb a b) (begins p s) e))
+turned : (a b : ℕ) → eqb a b ≡ eqb b a
+turned a b = grind (arith, nat_tests)
 
--- at places i of the piece and j of the text: the next bytes are compared
-module _ (p s : List ℕ) (i j : ℕ) where
-  pub begins_done : length p ≤ i → begins (drop i p) (drop j s) ≡ true
-  begins_done h = rw (drop_of_length-le p h)
-
-  module _ (h : i < length p) where
-    pub begins_short : length s ≤ j → begins (drop i p) (drop j s) ≡ false
-    begins_short k = rw (drop-cons p i 0 h, drop_of_length-le s k)
-
-    pub begins_differs : j < length s → (get_or s j 0 ≡ get_or p i 0 → ⊥) → begins (drop i p) (drop j s) ≡ false
-    begins_differs k n = rw (drop-cons p i 0 h, drop-cons s j 0 k, ne_eqb (get_or p i 0) (get_or s j 0) (λ e. n (sym e)))
-
-    pub begins_step : j < length s → get_or s j 0 ≡ get_or p i 0 → begins (drop i p) (drop j s) ≡ begins (drop (i + 1) p) (drop (j + 1) s)
-    begins_step k e = rw (add-one i, add-one j, drop-cons p i 0 h, drop-cons s j 0 k, eq-eqb (get_or p i 0) (get_or s j 0) (sym e))
+pub stripped_begins : (p s : List ℕ) → pointwise eqb (take (length p) s) p ≡ begins p s
+stripped_begins [] s = refl
+stripped_begins (a ∷ p) [] = refl
+stripped_begins (a ∷ p) (b ∷ s) = rw (turned b a, stripped_begins p s)

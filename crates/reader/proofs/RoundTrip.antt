@@ -11,8 +11,8 @@ use Rattle.cell.specs.Cell.{Reply}
 use Rattle.cell.proofs.RoundTrip.{made}
 use Rattle.line.specs.Line.{line_of, Shown, placed, print_of}
 use Rattle.line.proofs.Lines.{printed}
-use Rattle.reader.specs.declared.ReadLine.{ReadLine}
-use Rattle.reader.specs.declared.ReadLine.TheVariants.{Cell, NoLine}
+use Rattle.std.specs.Prelude.{Result, Ok, Err}
+use Rattle.reader.specs.declared.NoLine.{NoLine}
 use Rattle.reader.specs.Reader.{Reads}
 use Rattle.reader.specs.Answers.{read_reply, Small}
 use Rattle.reader.specs.Reading.{read_of}
@@ -35,21 +35,21 @@ unfolding print_of
 read_print c text room h r = ap (λ (line : List ℕ). placed line room) (sym ((r.cell c h).0 refl))
 
 -- what is said of a text is said by one answer
-heard_line : Reply → ReadLine
-heard_line s = cond (eqb s.number 0) (Cell s.cell) NoLine
+heard_line : Reply → Result ℕ NoLine
+heard_line s = cond (eqb s.number 0) (Ok s.cell) (Err (record {}))
 
-heard_said : (r : ReadLine) → heard_line (read_reply r) ≡ r
+heard_said : (r : Result ℕ NoLine) → heard_line (read_reply r) ≡ r
 unfolding heard_line
-heard_said (Cell c) = refl
-heard_said NoLine = refl
+heard_said (Ok c) = refl
+heard_said (Err e) = refl
 
-pub said_once : (p q : ReadLine) → read_reply p ≡ read_reply q → p ≡ q
+pub said_once : (p q : Result ℕ NoLine) → read_reply p ≡ read_reply q → p ≡ q
 said_once p q e = sym (heard_said p) ∙ ap heard_line e ∙ heard_said q
 
-reads_same : (text : List ℕ) (p q : ReadLine) → Small p → Reads text (read_reply p) → Reads text (read_reply q) → read_reply p ≡ read_reply q
-reads_same text (Cell c) q h r s = sym ((s.cell c h).1 ((r.cell c h).0 refl))
-reads_same text NoLine q h r s = sym (s.refused.1 (r.refused.0 refl))
+reads_same : (text : List ℕ) (p q : Result ℕ NoLine) → Small p → Reads text (read_reply p) → Reads text (read_reply q) → read_reply p ≡ read_reply q
+reads_same text (Ok c) q h r s = sym ((s.cell c h).1 ((r.cell c h).0 refl))
+reads_same text (Err e) q h r s = sym (s.refused.1 (r.refused.0 refl))
 
 -- reading leaves one answer
-pub read_once : (text : List ℕ) (p q : ReadLine) → Small p → Reads text (read_reply p) → Reads text (read_reply q) → p ≡ q
+pub read_once : (text : List ℕ) (p q : Result ℕ NoLine) → Small p → Reads text (read_reply p) → Reads text (read_reply q) → p ≡ q
 read_once text p q h r s = said_once p q (reads_same text p q h r s)

@@ -8,14 +8,18 @@ use native.Mathlib.Omega.{arith}
 use native.Mathlib.Numerals.{add-one}
 use borrow.Author.Tests.{eqb-true, ltb-true, ltb-false, not-false}
 use lib.Dec.{eqb, ltb}
-use lib.ListN.{length, drop, drop_of_length-le}
+use lib.ListN.{length, take, drop, drop_of_length-le}
 use lib.Seq.{drop-append_seam}
 use Rattle.cell.specs.declared.Form.{Form}
 use Rattle.cell.specs.declared.Form.TheVariants as form
 use Rattle.cell.specs.Cell.{form_of, legal, immediate}
 use Rattle.cell.proofs.Opcodes.{reserved_above}
 use Rattle.cell.proofs.Tests.{never, count, none_passes, everywhere, both_left, both_right}
-use Rattle.text.specs.Text.{bytes}
+use Rattle.std.specs.Cmp.Lexicographic.{pointwise}
+use Rattle.text.specs.Text.{bytes, Added}
+use Rattle.text.proofs.Adds.{added_front}
+use Rattle.mnemonic.proofs.Words.{word_short}
+use Rattle.reader.proofs.Pieces.{stripped_begins}
 use Rattle.mnemonic.specs.Mnemonic.{mnemonics, word_of}
 use Rattle.mnemonic.specs.Inner.{begins}
 use Rattle.mnemonic.proofs.Pieces.{begins_split, begins_append}
@@ -35,9 +39,26 @@ module _ (x : ℕ) (s : List ℕ) (h : x < 123) where
   pub word_next : begins (word_of x) s ≡ false → word_from (123 - x) x s ≡ word_from (123 - (x + 1)) (x + 1) s
   word_next e = rw (left, word_one, e) (ap (λ (y : ℕ). word_from (123 - (x + 1)) y s) (omega arith))
 
+  -- the word that was put into eight bytes is found at the front of the text, or not
+  module _ {l m : List ℕ} {k : ℕ} (eight : length l ≡ 8) (put : Added l 0 (word_of x) m k) where
+    word_put : take k m ≡ word_of x
+    word_put = (added_front (word_of x) (omega (arith, word_short x)) put).1
+
+    word_stripped : pointwise eqb (take (length (take k m)) s) (take k m) ≡ begins (word_of x) s
+    word_stripped = ap (λ (p : List ℕ). pointwise eqb (take (length p) s) p) word_put ∙ stripped_begins (word_of x) s
+
+    pub word_found : pointwise eqb (take (length (take k m)) s) (take k m) ≡ true → word_from (123 - x) x s ≡ taken x (drop (length (take k m)) s)
+    word_found e = word_here (sym word_stripped ∙ e) ∙ ap (λ (p : List ℕ). taken x (drop (length p) s)) (sym word_put)
+
+    pub word_passed : pointwise eqb (take (length (take k m)) s) (take k m) ≡ false → word_from (123 - x) x s ≡ word_from (123 - (x + 1)) (x + 1) s
+    word_passed e = word_next (sym word_stripped ∙ e)
+
 pub word_none : (x : ℕ) (s : List ℕ) → 123 ≤ x → word_from (123 - x) x s ≡ missing
 unfolding word_from
 word_none x s h = let n : 123 - x ≡ 0 = omega arith in rw n
+
+-- a step of the code
+pub ruleset steps = (word_found, word_passed, word_none)
 
 -- a word that is found begins the text
 word_tested : (x : ℕ) (s : List ℕ) {y : ℕ} {t : List ℕ} (b : Bool) → begins (word_of x) s ≡ b → (o : Taken) → (o ≡ taken y t → (s ≡ word_of y ++ t) × (y < 123)) → x < 123 → cond b (taken x (drop (length (word_of x)) s)) o ≡ taken y t → (s ≡ word_of y ++ t) × (y < 123)

@@ -1,12 +1,11 @@
 -- How a text is taken apart from the front. The private functions of reading answer as these definitions do; what `read` promises
 -- is stated by the printed line alone, in Reader.antt.
-use Rattle.std.specs.Prelude.{Bool, cond, ◌&&◌, List, [], ◌∷◌, ℕ, zero, suc, ◌+◌, ◌-◌, ◌*◌, leb, ltb, eqb, length, drop, get_or}
+use Rattle.std.specs.Prelude.{Bool, cond, ◌&&◌, List, [], ◌∷◌, ℕ, zero, suc, ◌+◌, ◌-◌, ◌*◌, leb, ltb, eqb, length, drop, get_or, Option, Some, None}
+use Rattle.std.specs.Borrow.{Bor}
 use Rattle.cell.specs.declared.Form.{Form}
 use Rattle.cell.specs.declared.Form.TheVariants as form
 use Rattle.cell.specs.declared.Operands.TheVariants as operands
 use Rattle.cell.specs.Cell.{Reply, form_of, encode_of, opcode_of, within}
-use Rattle.reader.specs.declared.Part.{Part}
-use Rattle.reader.specs.declared.Part.TheVariants.{Value, Missing}
 use Rattle.text.specs.Text.{bytes}
 use Rattle.mnemonic.specs.Mnemonic.{word_of}
 use Rattle.mnemonic.specs.Inner.{begins}
@@ -16,10 +15,10 @@ pub data Taken : Type 0 where
   taken : ℕ → List ℕ → Taken
   missing : Taken
 
--- a field's answer, with the rest of the text for the place of its first byte
-abbrev pub taken_from : List ℕ → Part → Taken
-taken_from text (Value v next) = taken v (drop next text)
-taken_from text Missing = missing
+-- a field's answer
+abbrev pub taken_from : Option (ℕ × Bor (List ℕ)) → Taken
+taken_from (Some p) = taken p.0 p.1.now
+taken_from None = missing
 
 -- b is one of the digits 0 to 9
 abbrev pub digit : ℕ → Bool

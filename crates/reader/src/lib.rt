@@ -2,226 +2,155 @@
 
 #![tactic(auto)]
 
-ghost use Rattle.std.specs.Prelude.{◌≡◌, List, ℕ, drop};
+ghost use Rattle.std.specs.Prelude.{◌≡◌};
 ghost use Rattle.reader.specs.Reader.{Reads};
 ghost use Rattle.reader.specs.Answers.{read_reply};
-ghost use Rattle.reader.specs.Reading.{taken_from, digit, grows, at_most, numeral_of, field_of, word_from, ended, finished, registers_of, immediate_of, cell_of};
-ghost use Rattle.mnemonic.specs.Inner.{begins};
+ghost use Rattle.reader.specs.Reading.{taken_from, grows, at_most, numeral_of, field_of, word_from, finished, registers_of, immediate_of, cell_of};
 ghost use Rattle.cell.specs.Answers.{encoded_reply};
 
-use cell::{Encoded, Form, Operands};
+use cell::{EncodeError, Form, Operands};
 use mnemonic::put_word;
 
-// What reading answers: the cell, or refusal 30.
-#[derive(Clone, Copy)]
-pub enum ReadLine {
-    Cell(u32),
-    NoLine,
-}
-
-// A value taken off a text, with the place of the next byte; or nothing.
-#[derive(Drop)]
-enum Part {
-    Value { value: u32, next: usize },
-    Missing,
-}
-
-// Whether a piece stands in a text from a place on.
-fn starts(text: &[u8], at: usize, piece: &[u8]) -> bool
-    ensures { result ≡ begins piece.now (drop at text.now) }
-{
-    let mut i = 0;
-    let mut j = at;
-    while i < piece.len() {
-        if text.len() <= j {
-            return false;
-        }
-        if text[j] != piece[i] {
-            return false;
-        }
-        i += 1;
-        j += 1;
-    }
-    true
-}
-
-// Whether a byte is a decimal digit.
-fn is_digit(b: u8) -> bool
-    ensures { result ≡ digit b }
-{
-    (48 <= b) & (b <= 57)
-}
+// Refusal 30 of a reading: the text is no cell's printed line.
+#[derive(Clone, Copy, Debug, PartialEq, Eq)]
+pub struct NoLine;
 
 // Whether a number that begins with a value goes on with a byte: no digit follows a leading zero.
 fn goes_on(value: u64, b: u8, limit: u32) -> bool
     ensures { result ≡ grows limit value b }
 {
-    is_digit(b) & (0 < value) & (value <= limit as u64)
+    b.is_ascii_digit() && 0 < value && value <= u64::from(limit)
 }
 
-// A number that ends at a place, if it is within a limit.
-fn at_most(value: u64, next: usize, limit: u32) -> Part
-    ensures { (s : List ℕ) → taken_from s result ≡ at_most limit value (drop next s) }
+// A number and the rest of its text, if it is within a limit.
+fn at_most(value: u64, rest: &[u8], limit: u32) -> Option<(u32, &[u8])>
+    ensures { taken_from result ≡ at_most limit value rest.now }
 {
-    if value <= limit as u64 {
-        Part::Value {
-            value: value as u32,
-            next,
-        }
+    if value <= u64::from(limit) {
+        Some((value as u32, rest))
     } else {
-        Part::Missing
+        None
     }
 }
 
-// The decimal number that stands in a text from a place on, if it is within a limit.
-fn number(text: &[u8], at: usize, limit: u32) -> Part
-    ensures { taken_from text.now result ≡ numeral_of limit (drop at text.now) }
+// The decimal number that a text begins with, if it is within a limit, and the rest.
+#[tactic(auto, unfolding(crate::specs::Reading::numeral_of), using(crate::proofs::Numbers::steps))]
+fn number(text: &[u8], limit: u32) -> Option<(u32, &[u8])>
+    ensures { taken_from result ≡ numeral_of limit text.now }
 {
-    if text.len() <= at {
-        return Part::Missing;
+    let (first, rest) = text.split_first()?;
+    if !first.is_ascii_digit() {
+        return None;
     }
-    let first = text[at];
-    if !is_digit(first) {
-        return Part::Missing;
-    }
-    let mut value = (first - 48) as u64;
-    let mut i = at + 1;
-    while i < text.len() {
-        let b = text[i];
-        if !goes_on(value, b, limit) {
-            return at_most(value, i, limit);
+    let mut value = u64::from(*first - b'0');
+    for (i, b) in rest.iter().enumerate() {
+        if !goes_on(value, *b, limit) {
+            return at_most(value, &rest[i..], limit);
         }
-        value = 10 * value + (b - 48) as u64;
-        i += 1;
+        value = 10 * value + u64::from(*b - b'0');
     }
-    at_most(value, i, limit)
+    at_most(value, b"", limit)
 }
 
 // A sign and the number after it.
-fn field(text: &[u8], at: usize, sign: &[u8], limit: u32) -> Part
-    ensures { taken_from text.now result ≡ field_of sign.now limit (drop at text.now) }
+#[tactic(auto, unfolding(crate::specs::Reading::field_of), using(crate::proofs::Pieces::stripped_begins))]
+fn field<'a>(text: &'a [u8], sign: &[u8], limit: u32) -> Option<(u32, &'a [u8])>
+    ensures { taken_from result ≡ field_of sign.now limit text.now }
 {
-    if starts(text, at, sign) {
-        number(text, at + sign.len(), limit)
-    } else {
-        Part::Missing
-    }
+    number(text.strip_prefix(sign)?, limit)
 }
 
-// The first opcode whose word a text begins with.
-fn word(text: &[u8]) -> Part
-    ensures { taken_from text.now result ≡ word_from 123 0 text.now }
+// The first opcode whose word a text begins with, and the rest. The words are in `mnemonic`, which puts one into lent room.
+#[tactic(auto, using(crate::proofs::Search::steps))]
+fn word(text: &[u8]) -> Option<(u8, &[u8])>
+    ensures { taken_from result ≡ word_from 123 0 text.now }
 {
     let mut word = [0u8; 8];
-    let mut x: u8 = 0;
-    while x < 123 {
+    for x in 0..123u8 {
         let size = put_word(&mut word, x);
-        if starts(text, 0, &word[..size]) {
-            return Part::Value {
-                value: x as u32,
-                next: size,
-            };
+        if let Some(rest) = text.strip_prefix(&word[..size]) {
+            return Some((x, rest));
         }
-        x += 1;
     }
-    Part::Missing
+    None
 }
 
-// Whether LF is all that is left of a text.
-fn ends(text: &[u8], at: usize) -> bool
-    ensures { result ≡ ended (drop at text.now) }
+// The cell that was encoded, if LF is all that is left of the text.
+fn finish(text: &[u8], encoded: Result<u32, EncodeError>) -> Result<u32, NoLine>
+    ensures { read_reply result ≡ finished (encoded_reply encoded) text.now }
 {
-    if at < text.len() {
-        (text.len() - at == 1) & (text[at] == 10)
-    } else {
-        false
+    match (encoded, text) {
+        (Ok(cell), [b'\n']) => Ok(cell),
+        _ => Err(NoLine),
     }
 }
 
-// The cell that was encoded, if the text ends there.
-fn finish(text: &[u8], at: usize, encoded: Encoded) -> ReadLine
-    ensures { read_reply result ≡ finished (encoded_reply encoded) (drop at text.now) }
+// A sign and the register after it.
+#[tactic(auto, using(crate::proofs::Numbers::field_byte))]
+fn register<'a>(text: &'a [u8], sign: &[u8]) -> Option<(u8, &'a [u8])>
+    ensures { taken_from result ≡ field_of sign.now 255 text.now }
 {
-    match encoded {
-        Encoded::Cell(cell) => {
-            if ends(text, at) {
-                ReadLine::Cell(cell)
-            } else {
-                ReadLine::NoLine
-            }
-        }
-        Encoded::ReservedOpcode => ReadLine::NoLine,
-        Encoded::OtherForm => ReadLine::NoLine,
-    }
+    let (n, rest) = field(text, sign, 255)?;
+    Some((n as u8, rest))
 }
 
-// The operands of three registers, after the word of an opcode.
-fn read_registers(text: &[u8], at: usize, opcode: u8) -> ReadLine
-    ensures { read_reply result ≡ registers_of opcode (drop at text.now) }
+// The operands of three registers, after the word of an opcode. `let .. else` is the form that document 01 names for the reader.
+#[tactic(auto, unfolding(crate::specs::Reading::registers_of))]
+fn read_registers(text: &[u8], opcode: u8) -> Result<u32, NoLine>
+    ensures { read_reply result ≡ registers_of opcode text.now }
 {
-    let Part::Value { value: n, next: a } = field(text, at, b"R", 255) else {
-        return ReadLine::NoLine;
+    let Some((n, text)) = register(text, b"R") else {
+        return Err(NoLine);
     };
-    let Part::Value { value: m, next: b } = field(text, a, b", R", 255) else {
-        return ReadLine::NoLine;
+    let Some((m, text)) = register(text, b", R") else {
+        return Err(NoLine);
     };
-    let Part::Value { value: l, next: c } = field(text, b, b", R", 255) else {
-        return ReadLine::NoLine;
+    let Some((l, text)) = register(text, b", R") else {
+        return Err(NoLine);
     };
-    let n = n as u8;
-    let m = m as u8;
-    let l = l as u8;
-    let encoded = cell::encode(opcode, Operands::Registers { n, m, l });
-    finish(text, c, encoded)
+    finish(text, cell::encode(opcode, Operands::Registers { n, m, l }))
 }
 
 // The operands of a register and an immediate, after the word of an opcode.
-fn read_immediate(text: &[u8], at: usize, opcode: u8) -> ReadLine
-    ensures { read_reply result ≡ immediate_of opcode (drop at text.now) }
+#[tactic(auto, unfolding(crate::specs::Reading::immediate_of), using(crate::proofs::Numbers::field_half))]
+fn read_immediate(text: &[u8], opcode: u8) -> Result<u32, NoLine>
+    ensures { read_reply result ≡ immediate_of opcode text.now }
 {
-    let Part::Value { value: n, next: a } = field(text, at, b"R", 255) else {
-        return ReadLine::NoLine;
+    let Some((n, text)) = register(text, b"R") else {
+        return Err(NoLine);
     };
-    let Part::Value {
-        value: imm,
-        next: b,
-    } = field(text, a, b", #", 65535)
-    else {
-        return ReadLine::NoLine;
+    let Some((imm, text)) = field(text, b", #", 65535) else {
+        return Err(NoLine);
     };
-    let n = n as u8;
     let imm = imm as u16;
-    let encoded = cell::encode(opcode, Operands::Immediate { n, imm });
-    finish(text, b, encoded)
+    finish(text, cell::encode(opcode, Operands::Immediate { n, imm }))
 }
 
 // The number of a reserved cell, after CELL.
-fn read_cell(text: &[u8], at: usize) -> ReadLine
-    ensures { read_reply result ≡ cell_of (drop at text.now) }
+#[tactic(auto, unfolding(crate::specs::Reading::cell_of))]
+fn read_cell(text: &[u8]) -> Result<u32, NoLine>
+    ensures { read_reply result ≡ cell_of text.now }
 {
-    let Part::Value { value, next } = number(text, at, 4294967295) else {
-        return ReadLine::NoLine;
+    let Some((value, text)) = number(text, u32::MAX) else {
+        return Err(NoLine);
     };
-    let form = cell::form_of((value / 16777216) as u8);
-    match form {
-        Form::Registers => ReadLine::NoLine,
-        Form::Immediate => ReadLine::NoLine,
-        Form::Reserved => finish(text, next, Encoded::Cell(value)),
+    match cell::form_of(cell::opcode_of(value) as u8) {
+        Form::Registers | Form::Immediate => Err(NoLine),
+        Form::Reserved => finish(text, Ok(value)),
     }
 }
 
 // Reads a cell's printed line.
-pub fn read(text: &[u8]) -> ReadLine
+#[tactic(auto, using(crate::proofs::Answers::reads_none))]
+pub fn read(text: &[u8]) -> Result<u32, NoLine>
     ensures { Reads text.now (read_reply result) }
 {
-    let Part::Value { value, next } = word(text) else {
-        return ReadLine::NoLine;
+    let Some((opcode, text)) = word(text) else {
+        return Err(NoLine);
     };
-    let opcode = value as u8;
-    let form = cell::form_of(opcode);
-    match form {
-        Form::Registers => read_registers(text, next, opcode),
-        Form::Immediate => read_immediate(text, next, opcode),
-        Form::Reserved => read_cell(text, next),
+    match cell::form_of(opcode) {
+        Form::Registers => read_registers(text, opcode),
+        Form::Immediate => read_immediate(text, opcode),
+        Form::Reserved => read_cell(text),
     }
 }

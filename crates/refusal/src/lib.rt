@@ -6,7 +6,7 @@ ghost use Rattle.std.specs.Prelude.{◌≡◌};
 ghost use Rattle.refusal.specs.Refusal.{number_of};
 
 // 10, 12 and 41 to 48, in this order.
-#[derive(Clone, Copy)]
+#[derive(Clone, Copy, Debug, PartialEq, Eq)]
 pub enum Refusal {
     Unsettled,
     Cells,
@@ -21,7 +21,7 @@ pub enum Refusal {
 }
 
 impl Refusal {
-    // A refusal's number.
+    // A refusal's number: a method, as the documents speak of it; a `From` would be no plainer.
     pub fn number(self) -> u64
         ensures { result ≡ number_of self }
     {

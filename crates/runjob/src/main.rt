@@ -11,6 +11,7 @@ use std::io;
 use std::io::Write;
 
 // Puts the whole text of what became of an input, and answers its length.
+#[tactic(auto, using(text::proofs::Adds::added_front), unfolding(outcome::specs::Told::text_of))]
 fn tell(input: &[u8], text: &mut [u8; Sizes::TEXT]) -> usize
     ensures within { result ≤ length text.new }
     ensures whole { take result text.new ≡ text_of input.now }

@@ -1,6 +1,6 @@
 -- Pieces stored one after the other, and the pieces of a saved job: where each begins, and how long they are at most.
 -- Assumes nothing.
-use Prim.Native.Nat.{ℕ, suc, ◌+◌, ◌-◌, ◌*◌, ◌≤◌, ◌<◌}
+use Prim.Native.Nat.{ℕ, suc, ◌+◌, ◌*◌, ◌≤◌, ◌<◌}
 use mathlib.Core.Path.{refl, sym, ap, ◌≡◌, ◌∙◌}
 use mathlib.Core.Bool.{Bool, true, false, cond}
 use mathlib.Core.List.{List, [], append_assoc, append-nil, ◌∷◌, ◌++◌}
@@ -8,8 +8,8 @@ use native.Mathlib.Nat.{add-zero}
 use native.Mathlib.Numerals.{add-one}
 use native.Mathlib.Omega.{arith}
 use lib.Dec.{eqb}
-use lib.ListN.{length, get_or, take, drop, length-append, length-drop, drop_of_length-le}
-use lib.Seq.{sets, length-sets, drop-cons, drop-drop}
+use lib.ListN.{length, get_or, drop, length-append, drop_of_length-le}
+use lib.Seq.{sets, length-sets, drop-cons}
 use borrow.Author.Tests.{eq-eqb, ne_eqb}
 use Rattle.machine.specs.declared.Settings.{Settings}
 use Rattle.machine.proofs.Tests.{picked}
@@ -17,7 +17,8 @@ use Rattle.text.proofs.Adds.{sets_append}
 use Rattle.machine.specs.State.{most_cells}
 use Rattle.lent.specs.Little.{bytes_of}
 use Rattle.saver.specs.Saving.{record_of, word_bytes, run_record, runs_from, value_record, values_from, fresh_of, setup_of, host_of}
-use Rattle.saver.specs.Inner.{Stored, Fits, span_of}
+use Rattle.saver.specs.Inner.{Stored, Fits}
+use Rattle.std.specs.List.{slice_split, onto_first}
 use Rattle.lent.proofs.Numbers.{length-bytes}
 
 -- a piece stored where another ends
@@ -78,28 +79,6 @@ unfolding word_bytes
 length-word_bytes [] = refl
 length-word_bytes (v ∷ words) = length-append (bytes_of 4 v) (word_bytes words) ∙ rw (length-bytes 4 v, length-word_bytes words) (omega arith)
 
--- ---- where a run ends
-
-pub span_on : (l : List ℕ) (i : ℕ) → i < length l → (get_or l i 0 ≡ 0 → ⊥) → span_of (drop i l) ≡ suc (span_of (drop (i + 1) l))
-unfolding span_of
-span_on l i h z = rw (drop-cons l i 0 h, ne_eqb (get_or l i 0) 0 z, add-one)
-
-pub span_stop : (l : List ℕ) (i : ℕ) → i < length l → get_or l i 0 ≡ 0 → span_of (drop i l) ≡ 0
-unfolding span_of
-span_stop l i h z = rw (drop-cons l i 0 h, eq-eqb (get_or l i 0) 0 z)
-
-pub span_none : (l : List ℕ) (i : ℕ) → length l ≤ i → span_of (drop i l) ≡ 0
-unfolding span_of
-span_none l i h = rw (drop_of_length-le l {i = i} h)
-
-pub span_within : (l : List ℕ) → span_of l ≤ length l
-unfolding span_of
-span_within [] = omega arith
-span_within (v ∷ l) = picked (λ (n : ℕ). n ≤ suc (length l)) (eqb v 0) 0 (suc (span_of l)) (λ t. omega arith) (λ t. omega (arith, span_within l))
-
-pub span_end : (l : List ℕ) (i end : ℕ) → i < length l → end ≡ i + span_of (drop i l) → end ≤ length l
-span_end l i end h e = omega (arith, span_within (drop i l), length-drop i l)
-
 -- ---- the pieces of a saved job
 
 pub length-record : (kind : ℕ) (payload : List ℕ) → length (record_of kind payload) ≡ 6 + length payload
@@ -136,33 +115,85 @@ unfolding run_record
 run_none base [] h = refl
 run_none base (v ∷ run) h = absurd (omega arith)
 
--- the run that has begun goes on up to the next cell that is 0, and then the others follow
-pub runs_span : (cells run : List ℕ) (base : ℕ)
-    → runs_from base run cells ≡ run_record base (run ++ take (span_of cells) cells) ++ runs_from (base + length run + span_of cells + 1) [] (drop (span_of cells + 1) cells)
-unfolding runs_from span_of run_record
-runs_span [] run base = rw (append-nil run, append-nil (run_record base run))
-runs_span (v ∷ cells) run base = by (eqb v 0) (runs_span cells (run ++ v ∷ []) base)
+-- ---- the runs, as the pieces between the cells that are 0
+
+abbrev pub is_zero : ℕ → Bool
+is_zero v = eqb v 0
+
+abbrev pub pieces : List ℕ → List (List ℕ)
+pieces cells = slice_split is_zero cells
+
+-- their records, where each begins a cell past the end of the last
+unfoldable pub runs_of : ℕ → List (List ℕ) → List ℕ
+runs_of base [] = []
+runs_of base (run ∷ runs) = run_record base run ++ runs_of (base + length run + 1) runs
+
+-- the cells that they take, each with the one after it
+unfoldable pub cells_of : List (List ℕ) → ℕ
+cells_of [] = 0
+cells_of (run ∷ runs) = length run + 1 + cells_of runs
+
+-- a run that has begun goes on in the first piece
+abbrev with_front : List ℕ → List (List ℕ) → List (List ℕ)
+with_front run [] = run ∷ []
+with_front run (piece ∷ more) = (run ++ piece) ∷ more
+
+front_onto : (run : List ℕ) (v : ℕ) (s : List (List ℕ)) → with_front run (onto_first v s) ≡ with_front (run ++ v ∷ []) s
+front_onto run v [] = refl
+front_onto run v (piece ∷ more) = rw (append_assoc run (v ∷ []) piece)
+
+front_none : (cells : List ℕ) → with_front [] (pieces cells) ≡ pieces cells
+front_none [] = refl
+front_none (v ∷ cells) = by (eqb v 0) (pieces cells)
   where
-    by : (t : Bool) → runs_from base (run ++ v ∷ []) cells ≡ run_record base (run ++ v ∷ [] ++ take (span_of cells) cells) ++ runs_from (base + length (run ++ v ∷ []) + span_of cells + 1) [] (drop (span_of cells + 1) cells)
-        → cond t (run_record base run ++ runs_from (base + length run + 1) [] cells) (runs_from base (run ++ v ∷ []) cells)
-        ≡ run_record base (run ++ take (cond t 0 (suc (span_of cells))) (v ∷ cells)) ++ runs_from (base + length run + cond t 0 (suc (span_of cells)) + 1) [] (drop (cond t 0 (suc (span_of cells)) + 1) (v ∷ cells))
-    by true more = let n : base + length run + 0 + 1 ≡ base + length run + 1 = omega arith in rw (append-nil run, n)
-    by false more =
-        let n : base + (length run + 1) + span_of cells + 1 ≡ base + length run + suc (span_of cells) + 1 = omega arith in
-        let d : suc (span_of cells) + 1 ≡ suc (span_of cells + 1) = omega arith in
-        more ∙ rw (append_assoc run (v ∷ []) (take (span_of cells) cells), length-append run (v ∷ []), n, d)
+    by : (t : Bool) (s : List (List ℕ)) → with_front [] (cond t ([] ∷ s) (onto_first v s)) ≡ cond t ([] ∷ s) (onto_first v s)
+    by true s = refl
+    by false [] = refl
+    by false (piece ∷ more) = refl
 
-pub runs_turn : (cells : List ℕ) (i end : ℕ) → end ≡ i + span_of (drop i cells)
-    → Parts (runs_from i [] (drop i cells)) (run_record i (take (end - i) (drop i cells))) (runs_from (end + 1) [] (drop (end + 1) cells))
-runs_turn cells i end e =
-    let n : end - i ≡ span_of (drop i cells) = omega arith in
-    let b : i + 0 + span_of (drop i cells) + 1 ≡ end + 1 = omega arith in
-    let d : i + (span_of (drop i cells) + 1) ≡ end + 1 = omega arith in
-    record { parts = runs_span (drop i cells) [] i ∙ rw (drop-drop, n, b, d) }
+runs_split : (cells run : List ℕ) (base : ℕ) → runs_from base run cells ≡ runs_of base (with_front run (pieces cells))
+unfolding runs_from runs_of
+runs_split [] run base = rw (append-nil run, append-nil (run_record base run))
+runs_split (v ∷ cells) run base = by (eqb v 0) (runs_split cells [] (base + length run + 1) ∙ ap (runs_of (base + length run + 1)) (front_none cells)) (runs_split cells (run ++ v ∷ []) base)
+  where
+    by : (t : Bool) → runs_from (base + length run + 1) [] cells ≡ runs_of (base + length run + 1) (pieces cells) → runs_from base (run ++ v ∷ []) cells ≡ runs_of base (with_front (run ++ v ∷ []) (pieces cells))
+        → cond t (run_record base run ++ runs_from (base + length run + 1) [] cells) (runs_from base (run ++ v ∷ []) cells) ≡ runs_of base (with_front run (cond t ([] ∷ pieces cells) (onto_first v (pieces cells))))
+    by true next on = rw (append-nil run, next)
+    by false next on = on ∙ rw (front_onto run v (pieces cells))
 
-pub runs_over : (base : ℕ) (cells : List ℕ) (i : ℕ) → length cells ≤ i → runs_from base [] (drop i cells) ≡ []
-unfolding runs_from run_record
-runs_over base cells i h = rw (drop_of_length-le cells {i = i} h)
+pub runs_pieces : (cells : List ℕ) → runs_from 0 [] cells ≡ runs_of 0 (pieces cells)
+runs_pieces cells = runs_split cells [] 0 ∙ ap (runs_of 0) (front_none cells)
+
+no_front : (cells : List ℕ) → cells_of (with_front [] (pieces cells)) ≡ length {A = ℕ} [] + length cells + 1 → cells_of (pieces cells) ≡ length cells + 1
+no_front cells h = sym (ap cells_of (front_none cells)) ∙ h ∙ omega arith
+
+cells_split : (cells run : List ℕ) → cells_of (with_front run (pieces cells)) ≡ length run + length cells + 1
+unfolding cells_of
+cells_split [] run = rw (append-nil run) (omega arith)
+cells_split (v ∷ cells) run = by (eqb v 0) (no_front cells (cells_split cells [])) (cells_split cells (run ++ v ∷ []))
+  where
+    by : (t : Bool) → cells_of (pieces cells) ≡ length cells + 1 → cells_of (with_front (run ++ v ∷ []) (pieces cells)) ≡ length (run ++ v ∷ []) + length cells + 1
+        → cells_of (with_front run (cond t ([] ∷ pieces cells) (onto_first v (pieces cells)))) ≡ length run + suc (length cells) + 1
+    by true next on = rw (append-nil run, next) (omega arith)
+    by false next on = ap cells_of (front_onto run v (pieces cells)) ∙ on ∙ rw (length-append run (v ∷ [])) (omega arith)
+
+pub cells_pieces : (cells : List ℕ) → cells_of (pieces cells) ≡ length cells + 1
+cells_pieces cells = no_front cells (cells_split cells [])
+
+pub runs_turn : (base n : ℕ) (all : List (List ℕ)) (run : List ℕ) → (n < length all) × (run ≡ get_or all n run) → Parts (runs_of base (drop n all)) (run_record base run) (runs_of (base + (length run + 1)) (drop (n + 1) all))
+unfolding runs_of
+runs_turn base n all run h =
+    let e : base + length run + 1 ≡ base + (length run + 1) = omega arith in
+    let m : n + 1 ≡ suc n = omega arith in
+    record { parts = rw (drop-cons all n run h.0, ← h.1, m, ← e) }
+
+pub cells_turn : (n : ℕ) (all : List (List ℕ)) (run : List ℕ) → (n < length all) × (run ≡ get_or all n run) → cells_of (drop n all) ≡ length run + 1 + cells_of (drop (n + 1) all)
+unfolding cells_of
+cells_turn n all run h = let m : n + 1 ≡ suc n = omega arith in rw (drop-cons all n run h.0, ← h.1, m)
+
+pub runs_over : (base n : ℕ) (all : List (List ℕ)) → n ≡ length all → runs_of base (drop n all) ≡ []
+unfolding runs_of
+runs_over base n all h = rw (drop_of_length-le all {i = n} (omega arith))
 
 pub value_none : (i v : ℕ) → v ≡ 0 → value_record i v ≡ []
 unfolding value_record

@@ -1,9 +1,9 @@
 -- What the checks of a save make of it, where a first writing without room told the size; and what a save that is not refused leaves.
 -- Assumes nothing.
-use Prim.Native.Nat.{ℕ, suc, ◌≤◌, ◌<◌}
+use Prim.Native.Nat.{ℕ, ◌≤◌, ◌<◌}
 use mathlib.Core.Path.{◌≡◌, refl, ◌∙◌}
 use mathlib.Core.Bool.{Bool, true, false, cond}
-use mathlib.Core.List.{List, [], ◌∷◌, ◌++◌}
+use mathlib.Core.List.{List, []}
 use native.Mathlib.Nat.{zero-add}
 use native.Mathlib.Omega.{arith}
 use lib.Dec.{ltb}
@@ -14,11 +14,6 @@ use Rattle.machine.specs.declared.Machine.{Machine}
 use Rattle.machine.specs.State.{bad_cells, bad_settings}
 use Rattle.saver.specs.Saving.{saved_of, Save, unsaved, save_of}
 use Rattle.saver.specs.Inner.{Stored}
-
--- where there is no room, nothing is stored
-pub nowhere : (p : List ℕ) (i : ℕ) → sets [] i p ≡ []
-nowhere [] i = refl
-nowhere (x ∷ p) i = nowhere p (suc i)
 
 module _ (m : Machine) (cells room : List ℕ) where
   pub save_few : bad_cells (length cells) ≡ true → unsaved 12 room ≡ save_of m cells room
@@ -31,20 +26,17 @@ module _ (m : Machine) (cells room : List ℕ) where
     save_unsettled h = rw (few, h)
 
     module _ (settled : bad_settings m.settings ≡ false) (tried : List ℕ) (size : ℕ) (s : Stored [] 0 (saved_of m cells) tried size) where
-      pub kept : tried ++ room ≡ room
-      kept = rw (s.text, nowhere (saved_of m cells) 0)
-
       sized : size ≡ length (saved_of m cells)
       sized = s.end ∙ zero-add (length (saved_of m cells))
 
-      pub save_narrow : length (tried ++ room) < size → unsaved 48 (tried ++ room) ≡ save_of m cells room
+      pub save_narrow : length room < size → unsaved 48 room ≡ save_of m cells room
       unfolding save_of
-      save_narrow h = rw (kept, few, settled, lt-ltb (length room) (length (saved_of m cells)) (rw (kept, sized) at h))
+      save_narrow h = rw (few, settled, lt-ltb (length room) (length (saved_of m cells)) (rw sized at h))
 
-      pub save_done : (after : List ℕ) (next : ℕ) → size ≤ length (tried ++ room) → Stored (tried ++ room) 0 (saved_of m cells) after next
+      pub save_done : (after : List ℕ) (next : ℕ) → size ≤ length room → Stored room 0 (saved_of m cells) after next
           → ◌≡◌ {A = Save} (record { room = after; number = 0; length = size }) (save_of m cells room)
       unfolding save_of
-      save_done after next h t = rw (few, settled, le-ltb (length room) (length (saved_of m cells)) (rw (kept, sized) at h), t.text, kept, sized)
+      save_done after next h t = rw (few, settled, le-ltb (length room) (length (saved_of m cells)) (rw sized at h), t.text, sized)
 
 -- A save that is not refused is past its tests, and its job stands in the room.
 module _ (m : Machine) (cells room : List ℕ) where

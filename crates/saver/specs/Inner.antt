@@ -1,5 +1,5 @@
 -- What only the contracts of private functions cite, each a short way to name what the definitions make: nothing here is promised.
-use Rattle.std.specs.Prelude.{◌≡◌, ℕ, suc, ◌+◌, ◌^◌, ◌<◌, cond, List, [], ◌∷◌, eqb, length}
+use Rattle.std.specs.Prelude.{◌≡◌, ℕ, ◌+◌, ◌^◌, ◌<◌, List, length}
 use Rattle.std.proofs.lemmas.List.Edits.{sets}
 
 -- A piece is stored from a place on, as far as the room goes, and ends where the next begins.
@@ -10,8 +10,3 @@ pub record Stored (before : List ℕ) (at : ℕ) (piece : List ℕ) (after : Lis
 -- a place past the piece is a number of the code
 abbrev pub Fits : ℕ → List ℕ → Type 0
 Fits at piece = at + length piece < 2 ^ 64
-
--- how many cells stand before the first that is 0
-unfoldable pub span_of : List ℕ → ℕ
-span_of [] = 0
-span_of (v ∷ cells) = cond (eqb v 0) 0 (suc (span_of cells))

@@ -12,28 +12,21 @@ use machine::{Machine, good_cells, good_settings};
 use refusal::Refusal;
 use writing::put_job;
 
-// What a save answers: the length written, or a refusal.
-#[derive(Clone, Copy)]
-pub enum Saved {
-    Written(usize),
-    Unsaved(Refusal),
-}
-
 // A machine and its cells as a job in the room that the host lends: its length, or a refusal with nothing written. The job's size is what
 // the writer answers where it finds no room.
-pub fn save(machine: Machine, cells: &[u32], room: &mut [u8]) -> Saved
+pub fn save(machine: Machine, cells: &[u32], room: &mut [u8]) -> Result<usize, Refusal>
     ensures { save_with result room.new ≡ save_of machine cells.now room.old }
 {
     if !good_cells(cells.len()) {
-        return Saved::Unsaved(Refusal::Cells);
+        return Err(Refusal::Cells);
     }
     if !good_settings(machine.settings) {
-        return Saved::Unsaved(Refusal::Unsettled);
+        return Err(Refusal::Unsettled);
     }
-    let size = put_job(&mut room[0..0], machine, cells);
+    let size = put_job(&mut [], &machine, cells);
     if room.len() < size {
-        return Saved::Unsaved(Refusal::Room);
+        return Err(Refusal::Room);
     }
-    put_job(room, machine, cells);
-    Saved::Written(size)
+    put_job(room, &machine, cells);
+    Ok(size)
 }

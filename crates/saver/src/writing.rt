@@ -1,10 +1,10 @@
 // Writing a job. Each function stores its piece as far as it finds room and answers where the piece ends, so that the same code tells a
-// job's size and writes it.
-ghost use Rattle.std.specs.Prelude.{◌≡◌, [], ◌++◌, ◌+◌, ◌^◌, ◌≤◌, ◌<◌, length, drop};
+// job's size and writes it. Room and place go beside one another, as `text::put` takes them.
+ghost use Rattle.std.specs.Prelude.{◌≡◌, [], ◌++◌, ◌+◌, ◌^◌, ◌≤◌, ◌<◌, length};
 ghost use Rattle.machine.specs.State.{most_cells};
 ghost use Rattle.lent.specs.Little.{bytes_of};
 ghost use Rattle.saver.specs.Saving.{word_bytes, run_record, runs_from, value_record, values_from, fresh_of, setup_of, host_of, saved_of};
-ghost use Rattle.saver.specs.Inner.{Stored, Fits, span_of};
+ghost use Rattle.saver.specs.Inner.{Stored, Fits};
 
 use machine::{Machine, Settings};
 
@@ -34,10 +34,8 @@ fn put_words(room: &mut [u8], at: usize, words: &[u32]) -> usize
     ensures { Stored room.old at (word_bytes words.now) room.new result }
 {
     let mut next = at;
-    let mut i = 0;
-    while i < words.len() {
-        next = put(room, next, 4, words[i]);
-        i = i + 1;
+    for word in words {
+        next = put(room, next, 4, *word);
     }
     next
 }
@@ -47,27 +45,12 @@ fn put_run(room: &mut [u8], at: usize, base: usize, run: &[u32]) -> usize
     requires { (base ≤ most_cells) × (length run.now ≤ most_cells) × Fits at (run_record base run.now) }
     ensures { Stored room.old at (run_record base run.now) room.new result }
 {
-    if run.len() == 0 {
+    if run.is_empty() {
         return at;
     }
     let head = put_head(room, at, (2 + 4 * run.len()) as u32, 1);
     let next = put(room, head, 2, base as u32);
     put_words(room, next, run)
-}
-
-// Where the run that begins at a place ends: at the next cell that is 0, or at the last cell's end.
-fn run_end(cells: &[u32], from: usize) -> usize
-    requires { from ≤ length cells.now }
-    ensures { result ≡ from + span_of (drop from cells.now) }
-{
-    let mut i = from;
-    while i < cells.len() {
-        if cells[i] == 0 {
-            return i;
-        }
-        i = i + 1;
-    }
-    i
 }
 
 // Each maximal run of cells that are not 0.
@@ -76,11 +59,10 @@ fn put_runs(room: &mut [u8], at: usize, cells: &[u32]) -> usize
     ensures { Stored room.old at (runs_from 0 [] cells.now) room.new result }
 {
     let mut next = at;
-    let mut i = 0;
-    while i < cells.len() {
-        let end = run_end(cells, i);
-        next = put_run(room, next, i, &cells[i..end]);
-        i = end + 1;
+    let mut base = 0;
+    for run in cells.split(|cell| *cell == 0) {
+        next = put_run(room, next, base, run);
+        base += run.len() + 1;
     }
     next
 }
@@ -99,15 +81,13 @@ fn put_value(room: &mut [u8], at: usize, register: usize, value: u32) -> usize
 }
 
 // Each register that is not 0, rising.
-fn put_values(room: &mut [u8], at: usize, regs: &[u32]) -> usize
-    requires { (length regs.now ≡ 256) × Fits at (values_from 0 regs.now) }
+fn put_values(room: &mut [u8], at: usize, regs: &[u32; 256]) -> usize
+    requires { Fits at (values_from 0 regs.now) }
     ensures { Stored room.old at (values_from 0 regs.now) room.new result }
 {
     let mut next = at;
-    let mut i = 0;
-    while i < 256 {
-        next = put_value(room, next, i, regs[i]);
-        i = i + 1;
+    for (i, value) in regs.iter().enumerate() {
+        next = put_value(room, next, i, *value);
     }
     next
 }
@@ -116,7 +96,7 @@ fn put_values(room: &mut [u8], at: usize, regs: &[u32]) -> usize
 fn fresh(s: Settings) -> bool
     ensures { result ≡ fresh_of s }
 {
-    (s.flags == 0) & (s.mask == 0) & (s.mode == 3)
+    s == Machine::fresh().settings
 }
 
 // The settings, unless they are fresh.
@@ -134,8 +114,8 @@ fn put_setup(room: &mut [u8], at: usize, s: Settings) -> usize
 }
 
 // The host's words.
-fn put_host(room: &mut [u8], at: usize, words: &[u32]) -> usize
-    requires { (length words.now ≡ 5) × (at + 26 < 2 ^ 64) }
+fn put_host(room: &mut [u8], at: usize, words: &[u32; 5]) -> usize
+    requires { at + 26 < 2 ^ 64 }
     ensures { Stored room.old at (host_of words.now) room.new result }
 {
     let head = put_head(room, at, 20, 5);
@@ -143,15 +123,13 @@ fn put_host(room: &mut [u8], at: usize, words: &[u32]) -> usize
 }
 
 // The job that a machine and its cells are saved as.
-pub(crate) fn put_job(room: &mut [u8], machine: Machine, cells: &[u32]) -> usize
+pub(crate) fn put_job(room: &mut [u8], machine: &Machine, cells: &[u32]) -> usize
     requires { length cells.now ≤ most_cells }
-    ensures { Stored room.old 0 (saved_of machine cells.now) room.new result }
+    ensures { Stored room.old 0 (saved_of machine.now cells.now) room.new result }
 {
-    let regs = machine.regs;
-    let words = machine.host;
     let values = put_runs(room, 0, cells);
-    let setup = put_values(room, values, &regs);
+    let setup = put_values(room, values, &machine.regs);
     let host = put_setup(room, setup, machine.settings);
-    let end = put_host(room, host, &words);
+    let end = put_host(room, host, &machine.host);
     put_head(room, end, 0, 4)
 }

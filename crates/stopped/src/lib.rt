@@ -20,11 +20,7 @@ use word::Flag;
 pub fn stops(s: u32, told: u32) -> bool
     ensures { result ≡ stopping told s }
 {
-    if Told::INT <= told {
-        return true;
-    }
-    let settings = unpack(s);
-    settings.mask & told != 0
+    Told::INT <= told || unpack(s).mask & told != 0
 }
 
 // Settings, with flag 256 if it is due.
@@ -35,8 +31,7 @@ pub fn settled(s: u32, due: bool) -> Settings
     if due {
         return Settings {
             flags: settings.flags | Flag::TERMINATION,
-            mask: settings.mask,
-            mode: settings.mode,
+            ..settings
         };
     }
     settings
@@ -46,13 +41,11 @@ pub fn settled(s: u32, due: bool) -> Settings
 pub fn refusal(told: u32) -> Stop
     ensures { said_of result ≡ refusal_by told }
 {
-    if told == Told::FAULT {
-        return Stop::Fault;
+    match told {
+        Told::FAULT => Stop::Fault,
+        Told::FLOAT => Stop::Float,
+        _ => Stop::Wild,
     }
-    if told == Told::FLOAT {
-        return Stop::Float;
-    }
-    Stop::Wild
 }
 
 // The stop after a step that is done and stops: 1, 3, 2.
@@ -63,9 +56,8 @@ pub fn stop_after(regs: &[u32; 256], told: u32, cell: u32) -> Stop
         return Stop::Ended;
     }
     if told == Told::INT {
-        let i = n_of(cell) as usize;
         return Stop::Int {
-            value: regs[i],
+            value: regs[n_of(cell) as usize],
             imm: imm_of(cell),
         };
     }
@@ -86,7 +78,7 @@ pub fn stop_outside(kind: Kind) -> Stop
 pub fn stop_of(pc: u32, kind: Kind, limit: usize, done: u64, budget: u64) -> Stop
     ensures { said_of result ≡ plainly (number_of kind done budget limit pc) }
 {
-    if (0 < done) & (Address::FLAGS <= pc) {
+    if 0 < done && Address::FLAGS <= pc {
         return Stop::Ended;
     }
     if done == budget {

@@ -1,135 +1,113 @@
 // The answers to trials of calls.
+ghost use Rattle.std.specs.Prelude.{◌≤◌};
+
 use crate::digests::digest;
 use crate::machines::{machine_of, put_machine, set_words};
-use crate::out::{say, tell, tell_line};
-use crate::payload::{byte_at, half_at, long_at, word_at};
+use crate::payload::Payload;
 use call::Ran;
-use lent::least_words;
+use lent::least;
 use machine::{Machine, Stop};
 use std::io;
 use std::io::Write;
-use std::num::wrapping_add_usize;
 
 // Writes a stop's number, the values of an INT, and the place of a rule's bad cell.
 fn put_stop<W: Write>(out: &mut W, stop: Stop) -> io::Result<()> {
-    tell(out, b"stop ", stop.number())?;
-    match stop {
-        Stop::Int { value, imm } => {
-            tell(out, b" value ", value as u64)?;
-            tell(out, b" imm ", imm as u64)?;
-            say(out, b" place 0")
-        }
-        Stop::Barred { place } => tell(out, b" value 0 imm 0 place ", place as u64),
-        _ => say(out, b" value 0 imm 0 place 0"),
-    }
+    let (value, imm, place) = match stop {
+        Stop::Int { value, imm } => (value, imm, 0),
+        Stop::Barred { place } => (0, 0, place),
+        _ => (0, 0, 0),
+    };
+    write!(
+        out,
+        "stop {} value {value} imm {imm} place {place}",
+        stop.number()
+    )
 }
 
 // Writes the line of a call.
-fn put_ran<W: Write>(out: &mut W, ran: Ran, cells: &[u32], journal: &[u32]) -> io::Result<()> {
-    let m = ran.machine;
-    let regs = m.regs;
-    let stop = ran.stop;
-    put_stop(out, stop)?;
-    tell(out, b" count ", ran.count)?;
-    tell(out, b" pc ", regs[255] as u64)?;
-    say(out, b" ")?;
-    put_machine(out, m, cells)?;
-    tell_line(out, b" journal ", digest(journal))
+fn put_ran<W: Write>(out: &mut W, ran: &Ran, cells: &[u32], journal: &[u32]) -> io::Result<()> {
+    put_stop(out, ran.stop)?;
+    write!(out, " count {} pc {} ", ran.count, ran.machine.regs[255])?;
+    put_machine(out, &ran.machine, cells)?;
+    writeln!(out, " journal {}", digest(journal))
 }
 
-// One call by its kind: 0 step, 1 run, 3 profile run, else back.
-fn call(
-    m: Machine,
-    cells: &mut [u32],
-    journal: &mut [u32],
-    kind: u8,
-    number: u64,
-    l: usize,
-) -> Ran {
-    if kind == 0 {
-        return forward::step(m, cells, journal);
-    }
-    if kind == 1 {
-        return forward::run(m, cells, journal, number);
-    }
-    if kind == 3 {
-        return forward::profile_run(m, cells, journal, l, number);
-    }
-    backward::back(m, cells, journal, number)
+// A call that a trial asks for.
+#[derive(Clone, Copy)]
+enum Call {
+    Step,
+    Run { budget: u64 },
+    ProfileRun { l: usize, budget: u64 },
+    Back { number: u64 },
 }
 
-// How many bytes a call of a kind has: a profile run has its L besides.
-fn size_of(kind: u8) -> usize {
-    if kind == 3 { 13 } else { 9 }
+impl Call {
+    // The next call of a payload: its kind, its number, and L of a profile run.
+    fn take(payload: &mut Payload) -> Call {
+        let kind = payload.byte();
+        let number = payload.long();
+        match kind {
+            0 => Call::Step,
+            1 => Call::Run { budget: number },
+            3 => Call::ProfileRun {
+                l: payload.size(),
+                budget: number,
+            },
+            _ => Call::Back { number },
+        }
+    }
+
+    fn make(self, m: Machine, cells: &mut [u32], journal: &mut [u32]) -> Ran {
+        match self {
+            Call::Step => forward::step(m, cells, journal),
+            Call::Run { budget } => forward::run(m, cells, journal, budget),
+            Call::ProfileRun { l, budget } => forward::profile_run(m, cells, journal, l, budget),
+            Call::Back { number } => backward::back(m, cells, journal, number),
+        }
+    }
 }
 
-// Makes the calls that stand at a place of a payload, their count first, and writes a line for each.
+// Makes the machine, the cells and the journal of a payload, and then its calls, their count first. Writes a line for each call.
 fn put_each<W: Write>(
     out: &mut W,
-    payload: &[u8],
-    at: usize,
-    m: Machine,
+    payload: &mut Payload,
     cells: &mut [u32],
     journal: &mut [u32],
 ) -> io::Result<()> {
-    let mut state = m;
-    let mut from = wrapping_add_usize(at, 2);
-    for _ in 0..half_at(payload, at) {
-        let kind = byte_at(payload, from);
-        let number = long_at(payload, wrapping_add_usize(from, 1));
-        let l = word_at(payload, wrapping_add_usize(from, 9)) as usize;
-        let ran = call(state, cells, journal, kind, number, l);
-        state = ran.machine;
-        put_ran(out, ran, cells, journal)?;
-        from = wrapping_add_usize(from, size_of(kind));
+    let mut machine = machine_of(payload);
+    set_words(cells, payload, 4);
+    set_words(journal, payload, 4);
+    for _ in 0..payload.half() {
+        let ran = Call::take(payload).make(machine, cells, journal);
+        put_ran(out, &ran, cells, journal)?;
+        machine = ran.machine;
     }
     Ok(())
 }
 
-// Writes the answer to calls on cells and a journal that hold zeros.
-fn put_on<W: Write>(
+// The same on so many cells and so many words of journal, and no more than there are. The bound is what an array must be shown to keep.
+fn put_within<const WORDS: usize, W: Write>(
     out: &mut W,
-    payload: &[u8],
-    cells: &mut [u32],
-    journal: &mut [u32],
-) -> io::Result<()> {
-    let given = machine_of(payload);
-    let a = set_words(cells, payload, given.end, 4);
-    let b = set_words(journal, payload, a, 4);
-    put_each(out, payload, b, given.machine, cells, journal)
-}
-
-// The same on as many cells and journal words as the payload says, and no more than there are.
-fn put_within<W: Write>(
-    out: &mut W,
-    payload: &[u8],
-    cells: &mut [u32],
-    journal: &mut [u32],
-) -> io::Result<()> {
-    let m = least_words(word_at(payload, 0) as usize, cells);
-    let words = least_words(word_at(payload, 4) as usize, journal);
-    put_on(out, payload, &mut cells[..m], &mut journal[..words])
-}
-
-// The same with a short journal, which is sooner made.
-fn put_few<W: Write>(out: &mut W, payload: &[u8]) -> io::Result<()> {
+    payload: &mut Payload,
+    size: usize,
+    words: usize,
+) -> io::Result<()>
+    requires { WORDS ≤ 524304 }
+{
     let mut cells = [0u32; 16500];
-    let mut journal = [0u32; 3200];
-    put_within(out, payload, &mut cells, &mut journal)
+    let mut journal = [0u32; WORDS];
+    let some = least(size, &cells);
+    let most = least(words, &journal);
+    put_each(out, payload, &mut cells[..some], &mut journal[..most])
 }
 
-// The same with as many words as a trial may have.
-fn put_many<W: Write>(out: &mut W, payload: &[u8]) -> io::Result<()> {
-    let mut cells = [0u32; 16500];
-    let mut journal = [0u32; 524304];
-    put_within(out, payload, &mut cells, &mut journal)
-}
-
-// Writes the answer to calls.
-pub(crate) fn put_calls<W: Write>(out: &mut W, payload: &[u8]) -> io::Result<()> {
-    if word_at(payload, 4) <= 3200 {
-        put_few(out, payload)
+// Writes the answer to calls. A short journal is sooner made than one of as many words as a trial may have.
+pub(crate) fn put_calls<W: Write>(out: &mut W, payload: &mut Payload) -> io::Result<()> {
+    let size = payload.size();
+    let words = payload.size();
+    if words <= 3200 {
+        put_within::<3200, _>(out, payload, size, words)
     } else {
-        put_many(out, payload)
+        put_within::<524304, _>(out, payload, size, words)
     }
 }

@@ -7,25 +7,7 @@ fn mix(x: u64, word: u32) -> u64 {
     x % PRIME * 1000003 + word as u64 + 1
 }
 
-// The digest of words.
-pub(crate) fn digest(words: &[u32]) -> u64 {
-    let mut x: u64 = 0;
-    for word in words {
-        x = mix(x, *word);
-    }
-    x % PRIME
-}
-
-// The digest of bytes.
-pub(crate) fn digest_bytes(bytes: &[u8]) -> u64 {
-    let mut x: u64 = 0;
-    for byte in bytes {
-        x = mix(x, wide(*byte));
-    }
-    x % PRIME
-}
-
-// A byte as a word.
-fn wide(byte: u8) -> u32 {
-    byte as u32
+// The digest of words or bytes.
+pub(crate) fn digest<T: Copy + Into<u32>>(items: &[T]) -> u64 {
+    items.iter().fold(0, |x, item| mix(x, (*item).into())) % PRIME
 }

@@ -1,29 +1,16 @@
 // The answers to trials of jobs.
-use crate::digests::digest_bytes;
-use crate::machines::{machine_of, put_machine, set_words, words_at};
-use crate::out::{end_line, say, tell, tell_line};
-use crate::payload::{byte_at, half_at, word_at};
-use job::Answer;
-use lent::{least_bytes, least_words};
+use crate::digests::digest;
+use crate::machines::{host_of, machine_of, put_machine, set_words};
+use crate::payload::Payload;
+use job::Refused;
+use lent::least;
 use machine::Machine;
 use outcome::Sizes;
-use saver::Saved;
+use refusal::Refusal;
 use std::io;
 use std::io::Write;
-use std::num::{wrapping_add_u16, wrapping_add_usize};
 
-// Writes what a load said.
-fn put_answer<W: Write>(out: &mut W, answer: Answer) -> io::Result<()> {
-    match answer {
-        Answer::Done => say(out, b"loaded\n"),
-        Answer::Refused { why, offset } => {
-            tell(out, b"refused ", why.number())?;
-            tell_line(out, b" at ", offset as u64)
-        }
-    }
-}
-
-// Loads a job with the host's words into cells and writes the two lines of it.
+// Loads a job with the host's words into cells and writes the two lines of it. The machine of a refused job is fresh.
 fn load<W: Write>(
     out: &mut W,
     job: &[u8],
@@ -31,46 +18,37 @@ fn load<W: Write>(
     cells: &mut [u32],
 ) -> io::Result<Machine> {
     let loaded = job::load(job, host, cells);
-    let machine = loaded.machine;
-    let answer = loaded.answer;
-    put_answer(out, answer)?;
-    put_machine(out, machine, cells)?;
-    end_line(out)?;
+    match loaded {
+        Ok(_) => writeln!(out, "loaded")?,
+        Err(Refused { why, offset }) => writeln!(out, "refused {} at {offset}", why.number())?,
+    }
+    let machine = loaded.unwrap_or(Machine::fresh());
+    put_machine(out, &machine, cells)?;
+    writeln!(out)?;
     Ok(machine)
 }
 
-// Writes what a save said, and answers how many bytes it wrote.
-fn put_saved<W: Write>(out: &mut W, saved: Saved) -> io::Result<usize> {
-    match saved {
-        Saved::Written(size) => {
-            tell_line(out, b"saved ", size as u64)?;
-            Ok(size)
-        }
-        Saved::Unsaved(why) => {
-            tell_line(out, b"refused ", why.number())?;
-            Ok(0)
-        }
-    }
-}
-
-// Saves a machine and its cells into a room, writes the two lines of it, and answers how many bytes were written.
-fn save<W: Write>(out: &mut W, m: Machine, cells: &[u32], room: &mut [u8]) -> io::Result<usize> {
+// Saves a machine and its cells into a room and writes the two lines of it.
+fn save<W: Write>(
+    out: &mut W,
+    m: Machine,
+    cells: &[u32],
+    room: &mut [u8],
+) -> io::Result<Result<usize, Refusal>> {
     let saved = saver::save(m, cells, room);
-    let size = put_saved(out, saved)?;
-    tell_line(out, b"room ", digest_bytes(room))?;
-    Ok(size)
+    match saved {
+        Ok(size) => writeln!(out, "saved {size}")?,
+        Err(why) => writeln!(out, "refused {}", why.number())?,
+    }
+    writeln!(out, "room {}", digest(room))?;
+    Ok(saved)
 }
 
-// Each of five words with all its bits turned.
-fn turned(host: [u32; 5]) -> [u32; 5] {
-    [!host[0], !host[1], !host[2], !host[3], !host[4]]
-}
-
-// Loads a job that was saved, into as many fresh cells, with other words of the host than the first time.
+// Loads a job that was saved, into as many fresh cells, with other words of the host than the first time: all their bits are turned.
 fn load_again<W: Write>(out: &mut W, job: &[u8], host: [u32; 5], m: usize) -> io::Result<()> {
     let mut cells = [1431655765u32; 16500];
-    let some = least_words(m, &cells);
-    load(out, job, turned(host), &mut cells[..some])?;
+    let some = least(m, &cells);
+    load(out, job, host.map(|word| !word), &mut cells[..some])?;
     Ok(())
 }
 
@@ -83,102 +61,132 @@ fn load_and_save<W: Write>(
     room: &mut [u8],
 ) -> io::Result<()> {
     let machine = load(out, job, host, cells)?;
-    let saved = save(out, machine, cells, room)?;
-    let end = least_bytes(saved, room);
-    if 0 < saved {
+    if let Ok(size) = save(out, machine, cells, room)? {
+        let end = least(size, room);
         load_again(out, &room[..end], host, cells.len())?;
     }
     Ok(())
 }
 
-// Writes the answer to a job, over as many cells and as much room as its payload says, and with the host's words that stand there.
-fn put_loaded<W: Write>(out: &mut W, job: &[u8], payload: &[u8]) -> io::Result<()> {
+// What a payload asks for a job: the number of cells and of bytes of room, and the host's words.
+#[derive(Clone, Copy)]
+struct Asked {
+    cells: usize,
+    room: usize,
+    host: [u32; 5],
+}
+
+impl Asked {
+    fn take(payload: &mut Payload) -> Asked {
+        Asked {
+            cells: payload.size(),
+            room: payload.size(),
+            host: host_of(payload),
+        }
+    }
+}
+
+// Writes the answer to a job, over as many cells and as much room as is asked, and no more than there are.
+fn put_given<W: Write>(out: &mut W, job: &[u8], asked: Asked) -> io::Result<()> {
     let mut cells = [2863311530u32; 16500];
     let mut room = [170u8; 70000];
-    let some = least_words(word_at(payload, 0) as usize, &cells);
-    let most = least_bytes(word_at(payload, 4) as usize, &room);
-    let host = words_at(payload, 8);
-    load_and_save(out, job, host, &mut cells[..some], &mut room[..most])
+    let some = least(asked.cells, &cells);
+    let most = least(asked.room, &room);
+    load_and_save(out, job, asked.host, &mut cells[..some], &mut room[..most])
 }
 
-// The same for the job that stands in a payload from byte 28 on.
-pub(crate) fn put_job<W: Write>(out: &mut W, payload: &[u8]) -> io::Result<()> {
-    let start = least_bytes(28, payload);
-    put_loaded(out, &payload[start..], payload)
+// The same for the job that is the rest of a payload.
+pub(crate) fn put_job<W: Write>(out: &mut W, payload: &mut Payload) -> io::Result<()> {
+    let asked = Asked::take(payload);
+    put_given(out, payload.rest, asked)
 }
 
-// Byte i of the job that a payload describes: of its head, of its tail, or in between the upper half of x.
-fn described(payload: &[u8], i: usize, x: u16) -> u8 {
-    let head = half_at(payload, 36) as usize;
-    let middle = word_at(payload, 28) as usize;
-    if i < head {
-        return byte_at(payload, wrapping_add_usize(38, i));
+// A job that a payload describes: its head and its tail are bytes of the payload, and each byte in between is the upper half of x, which
+// goes up by the same step at each byte of the job.
+#[derive(Clone, Copy)]
+struct Described<'a> {
+    middle: usize,
+    x: u16,
+    step: u16,
+    head: usize,
+    bytes: &'a [u8],
+}
+
+impl<'a> Described<'a> {
+    fn take(payload: &mut Payload<'a>) -> Described<'a> {
+        Described {
+            middle: payload.size(),
+            x: payload.half(),
+            step: payload.half(),
+            head: payload.half() as usize,
+            bytes: payload.rest,
+        }
     }
-    if i - head < middle {
-        return (x / 256) as u8;
+
+    // Byte i of the job, where x has come to a value. Past the payload's end stand zeros.
+    fn byte(&self, i: usize, x: u16) -> u8 {
+        if i < self.head {
+            self.bytes.get(i).copied().unwrap_or(0)
+        } else if i - self.head < self.middle {
+            (x / 256) as u8
+        } else {
+            self.bytes.get(i - self.middle).copied().unwrap_or(0)
+        }
     }
-    byte_at(payload, wrapping_add_usize(38, i - middle))
-}
 
-// Puts the bytes of the job that a payload describes; x goes up by the same step at each.
-fn make(job: &mut [u8], payload: &[u8]) {
-    let mut x = half_at(payload, 32);
-    for (i, byte) in job.iter_mut().enumerate() {
-        *byte = described(payload, i, x);
-        x = wrapping_add_u16(x, half_at(payload, 34));
+    fn put(&self, job: &mut [u8]) {
+        let mut x = self.x;
+        for (i, byte) in job.iter_mut().enumerate() {
+            *byte = self.byte(i, x);
+            x = x.wrapping_add(self.step);
+        }
     }
 }
 
-// The length of the job that a payload describes: what stands from byte 38 on, and the middle.
-fn length_of(payload: &[u8]) -> usize {
-    if payload.len() < 38 {
-        return 0;
-    }
-    wrapping_add_usize(payload.len() - 38, word_at(payload, 28) as usize)
-}
-
-// Makes the job that a payload describes in room of its length, and writes the answer to it.
-fn put_made<W: Write>(out: &mut W, job: &mut [u8], payload: &[u8]) -> io::Result<()> {
-    make(job, payload);
-    put_loaded(out, job, payload)
-}
-
-// The same for a payload that describes a job.
-pub(crate) fn put_described<W: Write>(out: &mut W, payload: &[u8]) -> io::Result<()> {
+// Writes the answer to a job that a payload describes. A payload that is cut before the job's bytes describes a job of none.
+pub(crate) fn put_described<W: Write>(out: &mut W, payload: &mut Payload) -> io::Result<()> {
+    let cut = payload.rest.len() < 38;
+    let asked = Asked::take(payload);
+    let job = Described::take(payload);
     let mut room = [0u8; 70000];
-    let size = least_bytes(length_of(payload), &room);
-    put_made(out, &mut room[..size], payload)
+    let size = if cut {
+        0
+    } else {
+        least(job.bytes.len().wrapping_add(job.middle), &room)
+    };
+    job.put(&mut room[..size]);
+    put_given(out, &room[..size], asked)
 }
 
 // Saves the machine and the cells that a payload gives.
 fn save_given<W: Write>(
     out: &mut W,
-    payload: &[u8],
+    payload: &mut Payload,
     cells: &mut [u32],
     room: &mut [u8],
 ) -> io::Result<()> {
-    let given = machine_of(payload);
-    set_words(cells, payload, given.end, 4);
-    save(out, given.machine, cells, room)?;
+    let machine = machine_of(payload);
+    set_words(cells, payload, 4);
+    let _ = save(out, machine, cells, room)?;
     Ok(())
 }
 
 // Writes the answer to a save, of as many cells and into as much room as the payload says.
-pub(crate) fn put_saving<W: Write>(out: &mut W, payload: &[u8]) -> io::Result<()> {
+pub(crate) fn put_saving<W: Write>(out: &mut W, payload: &mut Payload) -> io::Result<()> {
     let mut cells = [0u32; 16500];
     let mut room = [170u8; 70000];
-    let m = least_words(word_at(payload, 0) as usize, &cells);
-    let size = least_bytes(word_at(payload, 4) as usize, &room);
-    save_given(out, payload, &mut cells[..m], &mut room[..size])
+    let some = least(payload.size(), &cells);
+    let most = least(payload.size(), &room);
+    save_given(out, payload, &mut cells[..some], &mut room[..most])
 }
 
 // Writes what runjob prints.
-pub(crate) fn put_run<W: Write>(out: &mut W, payload: &[u8]) -> io::Result<()> {
+pub(crate) fn put_run<W: Write>(out: &mut W, payload: &Payload) -> io::Result<()> {
     let mut text = [0u8; Sizes::TEXT];
     let mut cells = [0u32; Sizes::CELLS];
     let mut journal = [0u32; Sizes::WORDS];
-    let outcome = outcome::run_job(payload, &mut cells, &mut journal);
+    let outcome = outcome::run_job(payload.rest, &mut cells, &mut journal);
     let end = outcome::put_outcome(&mut text, 0, outcome);
-    let size = least_bytes(end, &text);
-    say(out, &text[..size])
+    let size = least(end, &text);
+    out.write_all(&text[..size])
 }

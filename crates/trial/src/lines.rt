@@ -1,93 +1,77 @@
 // The answers to trials of decoding, encoding, printing and reading.
-use crate::out::{end_line, say, tell, tell_line};
-use crate::payload::{byte_at, half_at, word_at};
-use cell::{Encoded, Instruction, Operands};
-use lent::least_bytes;
-use line::Printed;
-use reader::ReadLine;
+use crate::payload::Payload;
+use cell::{EncodeError, Instruction, Operands};
+use lent::least;
+use line::NoRoom;
+use reader::NoLine;
 use std::io;
 use std::io::Write;
 
 // Writes the answer to a decoding.
-pub(crate) fn put_decoded<W: Write>(out: &mut W, payload: &[u8]) -> io::Result<()> {
-    let instruction = cell::decode(word_at(payload, 0));
-    match instruction {
+pub(crate) fn put_decoded<W: Write>(out: &mut W, payload: &mut Payload) -> io::Result<()> {
+    match cell::decode(payload.word()) {
         Instruction::Registers { opcode, n, m, l } => {
-            tell(out, b"registers ", opcode as u64)?;
-            tell(out, b" ", n as u64)?;
-            tell(out, b" ", m as u64)?;
-            tell_line(out, b" ", l as u64)
+            writeln!(out, "registers {opcode} {n} {m} {l}")
         }
-        Instruction::Immediate { opcode, n, imm } => {
-            tell(out, b"immediate ", opcode as u64)?;
-            tell(out, b" ", n as u64)?;
-            tell_line(out, b" ", imm as u64)
-        }
-        Instruction::Reserved(whole) => tell_line(out, b"reserved ", whole as u64),
+        Instruction::Immediate { opcode, n, imm } => writeln!(out, "immediate {opcode} {n} {imm}"),
+        Instruction::Reserved(cell) => writeln!(out, "reserved {cell}"),
     }
 }
 
 // The operands that a payload gives, in the form that it names.
-fn operands(payload: &[u8]) -> Operands {
-    let n = byte_at(payload, 2);
-    if byte_at(payload, 1) == 0 {
-        let m = byte_at(payload, 3);
-        let l = byte_at(payload, 4);
+fn operands_of(payload: &mut Payload) -> Operands {
+    let form = payload.byte();
+    let n = payload.byte();
+    if form == 0 {
+        let m = payload.byte();
+        let l = payload.byte();
         Operands::Registers { n, m, l }
     } else {
-        let imm = half_at(payload, 3);
+        let imm = payload.half();
         Operands::Immediate { n, imm }
     }
 }
 
 // Writes the answer to an encoding.
-pub(crate) fn put_encoded<W: Write>(out: &mut W, payload: &[u8]) -> io::Result<()> {
-    let encoded = cell::encode(byte_at(payload, 0), operands(payload));
-    match encoded {
-        Encoded::Cell(cell) => tell_line(out, b"cell ", cell as u64),
-        Encoded::ReservedOpcode => tell_line(out, b"refused ", 21),
-        Encoded::OtherForm => tell_line(out, b"refused ", 22),
+pub(crate) fn put_encoded<W: Write>(out: &mut W, payload: &mut Payload) -> io::Result<()> {
+    let opcode = payload.byte();
+    match cell::encode(opcode, operands_of(payload)) {
+        Ok(cell) => writeln!(out, "cell {cell}"),
+        Err(EncodeError::ReservedOpcode) => writeln!(out, "refused 21"),
+        Err(EncodeError::OtherForm) => writeln!(out, "refused 22"),
     }
 }
 
 // Writes the answer to a reading.
-pub(crate) fn put_read<W: Write>(out: &mut W, payload: &[u8]) -> io::Result<()> {
-    let said = reader::read(payload);
-    match said {
-        ReadLine::Cell(cell) => tell_line(out, b"cell ", cell as u64),
-        ReadLine::NoLine => tell_line(out, b"refused ", 30),
+pub(crate) fn put_read<W: Write>(out: &mut W, payload: &Payload) -> io::Result<()> {
+    match reader::read(payload.rest) {
+        Ok(cell) => writeln!(out, "cell {cell}"),
+        Err(NoLine) => writeln!(out, "refused 30"),
     }
-}
-
-// Writes a byte, and a space before it unless it is the first.
-fn put_byte<W: Write>(out: &mut W, i: usize, byte: u8) -> io::Result<()> {
-    if 0 < i {
-        say(out, b" ")?;
-    }
-    tell(out, b"", byte as u64)
 }
 
 // Writes the bytes of a room, with spaces between.
 fn put_room<W: Write>(out: &mut W, room: &[u8]) -> io::Result<()> {
     for (i, byte) in room.iter().enumerate() {
-        put_byte(out, i, *byte)?;
+        let space = if i == 0 { "" } else { " " };
+        write!(out, "{space}{byte}")?;
     }
-    end_line(out)
+    writeln!(out)
 }
 
 // Writes the answer to a printing into a room.
 fn put_printed<W: Write>(out: &mut W, cell: u32, room: &mut [u8]) -> io::Result<()> {
-    let printed = line::print(cell, room);
-    match printed {
-        Printed::Length(size) => tell_line(out, b"length ", size as u64)?,
-        Printed::NoRoom => tell_line(out, b"refused ", 31)?,
+    match line::print(cell, room) {
+        Ok(size) => writeln!(out, "length {size}")?,
+        Err(NoRoom) => writeln!(out, "refused 31")?,
     }
     put_room(out, room)
 }
 
 // Writes the answer to a printing into a room of as many bytes as the payload says.
-pub(crate) fn put_print<W: Write>(out: &mut W, payload: &[u8]) -> io::Result<()> {
+pub(crate) fn put_print<W: Write>(out: &mut W, payload: &mut Payload) -> io::Result<()> {
     let mut room = [170u8; 40];
-    let size = least_bytes(byte_at(payload, 4) as usize, &room);
-    put_printed(out, word_at(payload, 0), &mut room[..size])
+    let cell = payload.word();
+    let size = least(payload.byte() as usize, &room);
+    put_printed(out, cell, &mut room[..size])
 }

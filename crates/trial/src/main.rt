@@ -8,23 +8,21 @@ mod digests;
 mod jobs;
 mod lines;
 mod machines;
-mod out;
 mod payload;
 mod rules;
 
 use calls::put_calls;
 use intake::read_full;
 use jobs::{put_described, put_job, put_run, put_saving};
-use lent::least_bytes;
+use lent::least;
 use lines::{put_decoded, put_encoded, put_print, put_read};
-use out::{tell, tell_line};
-use payload::word_at;
+use payload::Payload;
 use rules::put_rule;
 use std::io;
 use std::io::{Read, Write};
 
-// Writes what an answer has after its first line: nothing for a kind that is none.
-fn put_rest<W: Write>(out: &mut W, kind: u8, payload: &[u8]) -> io::Result<()> {
+// Writes what an answer has after its first line, by the numbers that the file's form gives the kinds: nothing for one that is none.
+fn put_rest<W: Write>(out: &mut W, kind: u8, payload: &mut Payload) -> io::Result<()> {
     match kind {
         1 => put_decoded(out, payload),
         2 => put_encoded(out, payload),
@@ -40,39 +38,58 @@ fn put_rest<W: Write>(out: &mut W, kind: u8, payload: &[u8]) -> io::Result<()> {
     }
 }
 
-// Reads a payload and answers the trial.
+// What a trial begins with: its kind, and how many bytes its payload has.
+#[derive(Clone, Copy)]
+struct Head {
+    kind: u8,
+    size: usize,
+}
+
+impl Head {
+    // The head of the next trial, if there is one.
+    fn read<R: Read>(input: &mut R) -> io::Result<Option<Head>> {
+        let mut bytes = [0u8; 5];
+        if read_full(input, &mut bytes)? < bytes.len() {
+            return Ok(None);
+        }
+        let mut head = Payload { rest: &bytes };
+        Ok(Some(Head {
+            kind: head.byte(),
+            size: head.size(),
+        }))
+    }
+}
+
+// Reads the payload of a trial, and writes the answer.
 fn answer<R: Read, W: Write>(
     input: &mut R,
     out: &mut W,
     number: u64,
-    kind: u8,
-    payload: &mut [u8],
+    head: Head,
 ) -> io::Result<()> {
-    let read = read_full(input, payload)?;
-    tell(out, b"trial ", number)?;
-    tell_line(out, b" kind ", kind as u64)?;
-    put_rest(out, kind, &payload[..read])
-}
-
-// Answers the next trial, and says whether there was one.
-fn next<R: Read, W: Write>(input: &mut R, out: &mut W, number: u64) -> io::Result<bool> {
-    let mut head = [0u8; 5];
-    if read_full(input, &mut head)? < 5 {
-        return Ok(false);
-    }
-    let mut payload = [0u8; 40000];
-    let size = least_bytes(word_at(&head, 1) as usize, &payload);
-    answer(input, out, number, head[0], &mut payload[..size])?;
-    Ok(true)
+    let Head { kind, size } = head;
+    let mut room = [0u8; 40000];
+    let some = least(size, &room);
+    let read = read_full(input, &mut room[..some])?;
+    writeln!(out, "trial {number} kind {kind}")?;
+    put_rest(
+        out,
+        kind,
+        &mut Payload {
+            rest: &room[..read],
+        },
+    )
 }
 
 fn main(rt: HostRuntime) -> io::Result<()> {
     let mut input = rt.stdin();
     let mut out = rt.stdout();
+    // a loop has to be proved to end: a file of more trials than this is cut
     for number in 0..1048576u64 {
-        if !next(&mut input, &mut out, number)? {
+        let Some(head) = Head::read(&mut input)? else {
             return Ok(());
-        }
+        };
+        answer(&mut input, &mut out, number, head)?;
     }
     Ok(())
 }

@@ -1,25 +1,23 @@
--- The verdict by what becomes of the input: too long, refused by the load, or loaded into a number of cells that a job may have.
+-- The verdict by what becomes of the input: refused, or loaded into a number of cells that a job may have.
 -- Assumes nothing.
-use mathlib.Core.Path.{◌≡◌, refl}
+use mathlib.Core.Path.{◌≡◌, refl, sym, ap, ◌∙◌}
 use mathlib.Core.Bool.{Bool, true, false, cond}
 use mathlib.Core.List.{List}
-use Prim.Native.Nat.{ℕ, ◌<◌, ◌≤◌}
+use Prim.Native.Nat.{ℕ, ◌≤◌}
 use native.Mathlib.Omega.{arith}
-use borrow.Author.Tests.{lt-ltb, le-ltb, ltb-false}
-use lib.Dec.{eqb, ltb}
+use borrow.Author.Tests.{ne_eqb}
+use lib.Dec.{ltb}
 use lib.ListN.{length}
+use Rattle.std.specs.Prelude.{Result, Ok, Err, IsErrAnd, IfErr}
+use Rattle.machine.specs.declared.Machine.{Machine}
 use Rattle.machine.specs.State.{fresh_host, most_cells, bad_cells}
-use Rattle.intake.specs.Intake.{most_input}
-use Rattle.job.specs.declared.Loaded.{Loaded}
-use Rattle.job.specs.declared.Answer.TheVariants as answer
-use Rattle.refusal.specs.declared.Refusal.{Refusal}
-use Rattle.job.specs.Job.{nothing_yet, refused_at, refusal_from, refusal_in, loaded_by, load_of}
-use Rattle.job.specs.Answers.{load_with}
-use Rattle.refusal.specs.Refusal.{number_of}
-use Rattle.refusal.proofs.Named.{numbered}
-use Rattle.profile.proofs.Cells.{neither}
-use Rattle.verdict.specs.declared.Verdict.TheVariants.{Refused}
-use Rattle.verdict.specs.Verdict.{found_in, verdict_of, cells_of}
+use Rattle.machine.proofs.Checks.{not_above}
+use Rattle.intake.specs.declared.Refused as intake
+use Rattle.intake.specs.Intake.{most_input, taken_of}
+use Rattle.intake.specs.Answers.{taken_with}
+use Rattle.job.specs.Job.{Load, nothing_yet, refused_at, refusal_from, refusal_in, loaded_by, load_of}
+use Rattle.verdict.specs.declared.Unfit.TheVariants.{Refused}
+use Rattle.verdict.specs.Verdict.{Verdict, found_in, verdict_of, cells_of}
 
 -- a load into too many cells is refused
 loads_few : (job host cells : List ℕ) → (load_of job host cells).said.number ≡ 0 → length cells ≤ most_cells
@@ -29,30 +27,34 @@ loads_few job host cells e = go (bad_cells (length cells)) refl e
     go : (t : Bool) → bad_cells (length cells) ≡ t
         → (loaded_by (cond t (refused_at 12 0) (refusal_from (length job) (length cells) job 0 nothing_yet)) job host cells).said.number ≡ 0 → length cells ≤ most_cells
     go true t-is e = absurd (omega arith)
-    go false t-is e = ltb-false most_cells (length cells) (neither (eqb (length cells) 0) (ltb most_cells (length cells)) t-is).1
+    go false t-is e = not_above (length cells) t-is
 
-module _ (input argument cells : List ℕ) where
-  pub verdict_long : most_input < length input → Refused 50 most_input ≡ verdict_of input argument cells
-  unfolding verdict_of
-  verdict_long h = rw (lt-ltb most_input (length input) h)
+taken_few : (input cells : List ℕ) → (taken_of input cells).said.number ≡ 0 → length cells ≤ most_cells
+unfolding taken_of
+taken_few input cells e = go (ltb most_input (length input)) _ refl e
+  where
+    go : (t : Bool) (long : Load) → long.said.number ≡ 50 → (cond t long (load_of input fresh_host cells)).said.number ≡ 0 → length cells ≤ most_cells
+    go true long n e = absurd (omega arith)
+    go false long n e = loads_few input fresh_host cells e
 
-  pub cells_long : most_input < length input → cells ≡ cells_of input cells
+module _ (input argument cells left : List ℕ) (r : Result Machine intake.Refused) (e : taken_with r left ≡ taken_of input cells) where
+  cells_by : (r : Result Machine intake.Refused) → (taken_with r left).cells ≡ left
+  cells_by (Ok m) = refl
+  cells_by (Err refused) = refl
+
+  pub cells_left : left ≡ cells_of input cells
   unfolding cells_of
-  cells_long h = rw (lt-ltb most_input (length input) h)
+  cells_left = sym (cells_by r) ∙ ap (λ (l : Load). l.cells) e
 
-  module _ (l : Loaded) (left : List ℕ) (h : length input ≤ most_input) (e : load_with l left ≡ load_of input fresh_host cells) where
-    pub cells_left : left ≡ cells_of input cells
-    unfolding cells_of
-    cells_left = rw (le-ltb most_input (length input) h, ← e)
+  pub verdict_refused : (refused : intake.Refused) (out : Verdict) → r ≡ Err refused → IfErr r (λ told. told.number ≡ 0 → ⊥) → IsErrAnd out (λ unfit. unfit ≡ Refused refused)
+      → out ≡ verdict_of input argument cells
+  unfolding verdict_of
+  verdict_refused refused (Ok l) t n p = absurd p
+  verdict_refused refused (Err unfit) t n p = rw (← e, t, p, ne_eqb refused.number 0 (rw t at n))
 
-    pub verdict_refused : (why : Refusal) (offset : ℕ) → l.answer ≡ answer.Refused why offset
-        → Refused (number_of why) offset ≡ verdict_of input argument cells
-    unfolding verdict_of
-    verdict_refused why offset a = rw (le-ltb most_input (length input) h, ← e, a, numbered why)
+  pub verdict_loaded : (m : Machine) → r ≡ Ok m → found_in input argument left ≡ verdict_of input argument cells
+  unfolding verdict_of
+  verdict_loaded m t = rw (← e, t)
 
-    pub verdict_loaded : l.answer ≡ answer.Done → found_in input argument left ≡ verdict_of input argument cells
-    unfolding verdict_of
-    verdict_loaded a = rw (le-ltb most_input (length input) h, ← e, a)
-
-    pub few_cells : l.answer ≡ answer.Done → length cells ≤ most_cells
-    few_cells a = loads_few input fresh_host cells (rw (← e, a))
+  pub few_cells : (m : Machine) → r ≡ Ok m → length cells ≤ most_cells
+  few_cells m t = taken_few input cells (rw (← e, t))

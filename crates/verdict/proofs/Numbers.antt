@@ -1,8 +1,9 @@
 -- L by an argument's digits, one digit at a time.
 -- Assumes nothing.
 use Prim.Native.Nat.{ℕ, ◌+◌, ◌≤◌, ◌<◌}
-use mathlib.Core.Path.{◌≡◌}
-use mathlib.Core.Bool.{true, cond, ◌&&◌}
+use mathlib.Core.Path.{◌≡◌, refl}
+use mathlib.Core.Bool.{Bool, true, false, cond, ◌&&◌}
+use Rattle.std.specs.Prelude.{Option, Some, None}
 use mathlib.Core.List.{List}
 use native.Mathlib.Numerals.{add-one}
 use lib.Dec.{leb, ltb}
@@ -40,3 +41,20 @@ module _ (most v i : ℕ) (argument : List ℕ) where
   pub at_end : length argument ≤ i → number_from most v (drop i argument) ≡ v
   unfolding number_from
   at_end h = rw (drop_of_length-le argument h)
+
+  -- a byte that goes on makes a number, and no other does
+  pub read_on : (n : ℕ) → i < length argument → Some n ≡ cond (goes_on most v (get_or argument i 0)) (Some (grown v (get_or argument i 0))) None
+      → (n ≤ most) × (number_from most n (drop (i + 1) argument) ≡ number_from most v (drop i argument))
+  read_on n h e = go (goes_on most v (get_or argument i 0)) refl e
+    where
+      go : (t : Bool) → goes_on most v (get_or argument i 0) ≡ t → Some n ≡ cond t (Some (grown v (get_or argument i 0))) None
+          → (n ≤ most) × (number_from most n (drop (i + 1) argument) ≡ number_from most v (drop i argument))
+      go true t e = let same : n ≡ grown v (get_or argument i 0) = cc in let d = went_on most v (get_or argument i 0) t in (rw same d.fits, rw (same, next h, t))
+      go false t e = cc
+
+  pub read_no_more : i < length argument → None ≡ cond (goes_on most v (get_or argument i 0)) (Some (grown v (get_or argument i 0))) None → 0 ≡ number_from most v (drop i argument)
+  read_no_more h e = go (goes_on most v (get_or argument i 0)) refl e
+    where
+      go : (t : Bool) → goes_on most v (get_or argument i 0) ≡ t → ◌≡◌ {A = Option ℕ} None (cond t (Some (grown v (get_or argument i 0))) None) → 0 ≡ number_from most v (drop i argument)
+      go true t e = cc
+      go false t e = rw (next h, t)

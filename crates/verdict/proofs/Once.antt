@@ -3,8 +3,7 @@ use mathlib.Core.Path.{◌≡◌, sym, ◌∙◌}
 use mathlib.Core.List.{List}
 use Prim.Native.Nat.{ℕ}
 use Rattle.text.proofs.Adds.{once as added-once}
-use Rattle.verdict.specs.declared.Verdict.{Verdict}
-use Rattle.verdict.specs.Verdict.{verdict_of, cells_of}
+use Rattle.verdict.specs.Verdict.{Verdict, verdict_of, cells_of}
 use Rattle.verdict.specs.Told.{Told}
 
 pub check_once : (input argument cells : List ℕ) (r t : Verdict) (left left' : List ℕ)

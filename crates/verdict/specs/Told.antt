@@ -1,13 +1,12 @@
 -- What `check-rule` prints. Each line ends in LF.
-use Rattle.std.specs.Prelude.{List, ◌++◌, ℕ, ◌≤◌, length, replicate}
+use Rattle.std.specs.Prelude.{List, ◌++◌, ℕ, ◌≤◌, length, replicate, Ok, Err}
 use Rattle.text.specs.Text.{bytes, named, Added}
 use Rattle.line.specs.Line.{line_of}
 use Rattle.intake.specs.Intake.{cell_count, refused_text}
 use Rattle.profile.specs.declared.Flaw.{Flaw}
 use Rattle.profile.specs.declared.Flaw.TheVariants as flaw
-use Rattle.verdict.specs.declared.Verdict.{Verdict}
-use Rattle.verdict.specs.declared.Verdict.TheVariants.{Refused, NoStart, BadLength, ForwardOnly, BadCell}
-use Rattle.verdict.specs.Verdict.{verdict_of}
+use Rattle.verdict.specs.declared.Unfit.TheVariants.{Refused, NoStart, BadLength, BadCell}
+use Rattle.verdict.specs.Verdict.{Verdict, verdict_of}
 
 -- why a cell is not allowed
 abbrev pub flaw_text : Flaw → List ℕ
@@ -19,12 +18,12 @@ flaw_text flaw.Target = bytes "not allowed: R255 is a target, which it may be in
 
 -- the text of a verdict
 unfoldable pub told_of : Verdict → List ℕ
-told_of (Refused number offset) = refused_text number offset
-told_of NoStart = bytes "refused 60: the first record does not begin at cell 0\n"
-told_of (BadLength most) = named "refused 60: L must be 1 to " most ++ bytes "\n"
-told_of (ForwardOnly l) = named "forward only: at most " l ++ bytes " steps\n"
+told_of (Err (Refused r)) = refused_text r.number r.offset
+told_of (Err NoStart) = bytes "refused 60: the first record does not begin at cell 0\n"
+told_of (Err (BadLength most)) = named "refused 60: L must be 1 to " most ++ bytes "\n"
+told_of (Ok l) = named "forward only: at most " l ++ bytes " steps\n"
 -- as `cell 3: BZ R1, #65533`
-told_of (BadCell place cell flaw) = named "cell " place ++ bytes ": " ++ line_of cell ++ flaw_text flaw
+told_of (Err (BadCell place cell flaw)) = named "cell " place ++ bytes ": " ++ line_of cell ++ flaw_text flaw
 
 -- what `check-rule` prints for an input and an argument
 unfoldable pub text_of : List ℕ → List ℕ → List ℕ

@@ -1,7 +1,8 @@
-// The text of a verdict, line by line.
+// The text of a verdict, line by line. A text and its places are apart, as `text` says.
 ghost use Rattle.text.specs.Text.{Added};
 ghost use Rattle.line.specs.Line.{line_of};
-ghost use Rattle.verdict.specs.declared.Verdict.TheVariants.{NoStart, BadLength, ForwardOnly, BadCell};
+ghost use Rattle.std.specs.Prelude.{◌≡◌, Ok, Err};
+ghost use Rattle.verdict.specs.declared.Unfit.TheVariants.{NoStart, BadLength, BadCell};
 ghost use Rattle.verdict.specs.Told.{flaw_text, told_of, Told};
 
 use profile::Flaw;
@@ -9,7 +10,7 @@ use text::{put, put_number};
 
 // Puts the line of a job whose first record does not begin at cell 0.
 pub(crate) fn put_no_start(text: &mut [u8], at: usize) -> usize
-    ensures { Told text.old at (told_of NoStart) text.new result }
+    ensures { Told text.old at (told_of (Err NoStart)) text.new result }
 {
     put(
         text,
@@ -20,7 +21,7 @@ pub(crate) fn put_no_start(text: &mut [u8], at: usize) -> usize
 
 // Puts the line of an L that is not 1 to the most.
 pub(crate) fn put_bad_length(text: &mut [u8], at: usize, most: usize) -> usize
-    ensures { Told text.old at (told_of (BadLength most)) text.new result }
+    ensures { Told text.old at (told_of (Err (BadLength most))) text.new result }
 {
     let a = put_number(text, at, b"refused 60: L must be 1 to ", most as u64);
     put(text, a, b"\n")
@@ -28,7 +29,7 @@ pub(crate) fn put_bad_length(text: &mut [u8], at: usize, most: usize) -> usize
 
 // Puts the line of a rule that only goes forward.
 pub(crate) fn put_forward_only(text: &mut [u8], at: usize, l: usize) -> usize
-    ensures { Told text.old at (told_of (ForwardOnly l)) text.new result }
+    ensures { Told text.old at (told_of (Ok l)) text.new result }
 {
     let a = put_number(text, at, b"forward only: at most ", l as u64);
     put(text, a, b" steps\n")
@@ -43,29 +44,27 @@ fn put_cell(text: &mut [u8], at: usize, cell: u32) -> usize
     put(text, at, &line[..size])
 }
 
-// Puts the line that says why a cell is not allowed.
-fn put_flaw(text: &mut [u8], at: usize, flaw: Flaw) -> usize
-    ensures { Added text.old at (flaw_text flaw) text.new result }
+// The line that says why a cell is not allowed.
+fn flaw_line(flaw: Flaw) -> &'static [u8]
+    ensures { result.now ≡ flaw_text flaw }
 {
     match flaw {
-        Flaw::Reserved => put(text, at, b"not allowed: the opcode is reserved\n"),
-        Flaw::Float => put(text, at, b"not allowed: opcodes 80 to 106 are for floats\n"),
-        Flaw::Int => put(text, at, b"not allowed: INT would stop the rule\n"),
-        Flaw::Back => put(text, at, b"not allowed: the branch goes back\n"),
-        Flaw::Target => put(
-            text,
-            at,
-            b"not allowed: R255 is a target, which it may be in LDUI R255, #65535 alone\n",
-        ),
+        Flaw::Reserved => b"not allowed: the opcode is reserved\n",
+        Flaw::Float => b"not allowed: opcodes 80 to 106 are for floats\n",
+        Flaw::Int => b"not allowed: INT would stop the rule\n",
+        Flaw::Back => b"not allowed: the branch goes back\n",
+        Flaw::Target => {
+            b"not allowed: R255 is a target, which it may be in LDUI R255, #65535 alone\n"
+        }
     }
 }
 
 // Puts the lines of a cell that is not allowed.
 pub(crate) fn put_bad_cell(text: &mut [u8], at: usize, place: usize, cell: u32, flaw: Flaw) -> usize
-    ensures { Told text.old at (told_of (BadCell place cell flaw)) text.new result }
+    ensures { Told text.old at (told_of (Err (BadCell place cell flaw))) text.new result }
 {
     let a = put_number(text, at, b"cell ", place as u64);
     let b = put(text, a, b": ");
     let c = put_cell(text, b, cell);
-    put_flaw(text, c, flaw)
+    put(text, c, flaw_line(flaw))
 }

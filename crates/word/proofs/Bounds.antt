@@ -1,7 +1,7 @@
 -- What callers need of an operation, in place of its text: its value is a 32-bit number, the flags that it raises are among those
 -- that it governs, and both are below 32.
 -- Assumes nothing.
-use Rattle.std.proofs.Common.{◌≡◌, ℕ, zero, suc, ◌+◌, ◌-◌, ◌*◌, ◌/◌, ◌%◌, ◌^◌, ◌<◌, ◌≤◌, Bool, true, false, cond, ◌||◌, eqb, ltb, leb, ℤ, pos, negsuc, neg_ℤ, refl, div-le_self, arith, w32, of_z}
+use Rattle.std.proofs.Common.{◌≡◌, ℕ, zero, suc, ◌+◌, ◌*◌, ◌/◌, ◌%◌, ◌^◌, ◌<◌, ◌≤◌, Bool, true, false, cond, ◌||◌, eqb, ltb, leb, ℤ, pos, negsuc, neg_ℤ, refl, div-le_self, arith, w32, of_z}
 use native.Mathlib.Nat.{mod-le}
 use lib.Bits.{bit_and, and_self, and_zero_l, and_le_r, and_lt, or_lt, xor_lt}
 use lib.Signed.{mag, lt_z, le_z, quot_z, shr_z, mag_shr}

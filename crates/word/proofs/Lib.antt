@@ -1,4 +1,2 @@
-pub mod Product
-pub mod Integers
 pub mod Bounds
 pub mod Asking

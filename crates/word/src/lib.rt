@@ -3,19 +3,16 @@
 
 #![tactic(auto)]
 
-ghost use Rattle.std.specs.Prelude.{◌≡◌};
-ghost use Rattle.word.specs.Word.{written_of};
+ghost use Rattle.std.specs.Prelude.{◌≡◌, not, is_some, unwrap_or};
+ghost use Rattle.word.specs.Word.{plain_of, when, written_of};
 
 mod arithmetic;
-mod compare;
-mod shift;
 mod signed;
 
-use arithmetic::{difference, product, remainder, signed_quotient, sum, unsigned_quotient};
-use compare::{either_zero, equal, greater, signed_greater};
-use shift::{left, right, signed_right};
+use arithmetic::{difference, product, sum};
+use signed::{quotient, shifted};
 
-// The machine's flags, a bit each.
+// The machine's flags, a bit each: constants, the form that document 01 names.
 #[derive(Clone, Copy)]
 pub struct Flag;
 
@@ -71,18 +68,39 @@ pub struct Written {
     pub raised: u32,
 }
 
-// A value, with no flag governed.
-fn plain(value: u32) -> Written
-    ensures { result ≡ record { value = value; governed = 0; raised = 0 } }
-{
-    Written {
-        value,
-        governed: 0,
-        raised: 0,
+impl Written {
+    // A value, with no flag governed.
+    pub fn plain(value: u32) -> Written
+        ensures { result ≡ plain_of value }
+    {
+        Written {
+            value,
+            governed: 0,
+            raised: 0,
+        }
+    }
+
+    // A value, and flags that are all written as 1 or all as 0.
+    pub fn governing(value: u32, governed: u32, raises: bool) -> Written
+        ensures { result ≡ record { value = value; governed = governed; raised = when raises governed } }
+    {
+        Written {
+            value,
+            governed,
+            raised: if raises { governed } else { 0 },
+        }
+    }
+
+    // A value, or where there is none another in its place and the flag that says so.
+    fn value_or(value: Option<u32>, other: u32, flag: u32) -> Written
+        ensures { result ≡ record { value = unwrap_or value other; governed = flag; raised = when (not (is_some value)) flag } }
+    {
+        Written::governing(value.unwrap_or(other), flag, value.is_none())
     }
 }
 
 // What an operation writes, from its operands m and l, the old Rn and the flags.
+#[tactic(auto, unfolding(crate::specs::Word::written_of))]
 pub fn operate(op: Op, m: u32, l: u32, n: u32, flags: u32) -> Written
     ensures { result ≡ written_of op m l n flags }
 {
@@ -92,19 +110,19 @@ pub fn operate(op: Op, m: u32, l: u32, n: u32, flags: u32) -> Written
         Op::Sub => difference(m, l, 0),
         Op::Sbb => difference(m, l, flags / 2 % 2),
         Op::Mul => product(m, l),
-        Op::Udiv => unsigned_quotient(m, l, n),
-        Op::Sdiv => signed_quotient(m, l, n),
-        Op::Mod => remainder(m, l, n),
-        Op::And => plain(m & l),
-        Op::Or => plain(m | l),
-        Op::Xor => plain(m ^ l),
-        Op::Nand => plain(!(m & l)),
-        Op::Lnand => plain(either_zero(m, l)),
-        Op::Lsh => left(m, l),
-        Op::Ursh => right(m, l),
-        Op::Srsh => signed_right(m, l),
-        Op::Ugt => plain(greater(m, l)),
-        Op::Sgt => plain(signed_greater(m, l)),
-        Op::Eq => plain(equal(m, l)),
+        Op::Udiv => Written::value_or(m.checked_div(l), n, Flag::DIVIDE_BY_ZERO),
+        Op::Sdiv => quotient(m, l, n),
+        Op::Mod => Written::value_or(m.checked_rem(l), n, Flag::DIVIDE_BY_ZERO),
+        Op::And => Written::plain(m & l),
+        Op::Or => Written::plain(m | l),
+        Op::Xor => Written::plain(m ^ l),
+        Op::Nand => Written::plain(!(m & l)),
+        Op::Lnand => Written::plain((m == 0 || l == 0) as u32),
+        Op::Lsh => Written::value_or(m.checked_shl(l), 0, Flag::OVERFLOW),
+        Op::Ursh => Written::value_or(m.checked_shr(l), 0, Flag::UNDERFLOW),
+        Op::Srsh => shifted(m, l),
+        Op::Ugt => Written::plain((l < m) as u32),
+        Op::Sgt => Written::plain((l.cast_signed() < m.cast_signed()) as u32),
+        Op::Eq => Written::plain((m == l) as u32),
     }
 }

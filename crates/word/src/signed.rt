@@ -1,25 +1,40 @@
-// The signed reading of a register's 32 bits, and back.
+// What reads its operands as signed numbers, in the form of the signed division and shift on i32.
 ghost use Rattle.std.specs.Prelude.{◌≡◌};
-ghost use Rattle.word.specs.Word.{signed, bits};
+ghost use Rattle.word.specs.Word.{sdiv_of, shift_of, srsh_by, underflow};
 
-// The signed number that 32 bits are.
-pub(crate) fn signed_of(x: u32) -> i32
-    ensures { result ≡ signed x }
+use crate::{Flag, Written};
+
+// The signed quotient, cut toward zero; by zero n is kept. The least number by -1 is the one quotient that 32 bits do not hold.
+// It raises one of the two flags that it governs, so that no constructor fits.
+pub(crate) fn quotient(m: u32, l: u32, n: u32) -> Written
+    ensures { result ≡ sdiv_of m l n }
 {
-    if x < 2147483648 {
-        x as i32
-    } else {
-        -1 - ((4294967295 - x) as i32)
+    let governed = Flag::DIVIDE_BY_ZERO + Flag::OVERFLOW;
+    if l == 0 {
+        return Written {
+            value: n,
+            governed,
+            raised: Flag::DIVIDE_BY_ZERO,
+        };
+    }
+    match m.cast_signed().checked_div(l.cast_signed()) {
+        Some(q) => Written {
+            value: q.cast_unsigned(),
+            governed,
+            raised: 0,
+        },
+        None => Written {
+            value: m,
+            governed,
+            raised: Flag::OVERFLOW,
+        },
     }
 }
 
-// The 32 bits of a signed number.
-pub(crate) fn bits_of(z: i32) -> u32
-    ensures { result ≡ bits z }
+// m shifted to the right as a signed number; above 31 all bits are the sign bit.
+pub(crate) fn shifted(m: u32, l: u32) -> Written
+    ensures { result ≡ shift_of srsh_by underflow m l }
 {
-    if z < 0 {
-        4294967295 - ((-1 - z) as u32)
-    } else {
-        z as u32
-    }
+    let z = m.cast_signed() >> l.min(31);
+    Written::governing(z.cast_unsigned(), Flag::UNDERFLOW, 31 < l)
 }

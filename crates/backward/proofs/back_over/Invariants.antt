@@ -1,5 +1,5 @@
 -- `backward::back_over` meets its contract: the loop's invariant is that what is left of going back leads where the whole leads.
-use Prim.Native.Nat.{ℕ, ◌-◌, ◌≤◌}
+use Prim.Native.Nat.{ℕ}
 use mathlib.Core.List.{List}
 use Rattle.machine.specs.declared.Settings.{Settings}
 use Rattle.backward.specs.Reached.{machine_with}
@@ -7,8 +7,5 @@ use Rattle.backward.proofs.Returns.{Returning}
 use Rattle.backward.proofs.back_over.Given as goal
 
 -- the loop knows registers and depth of the machine; the rest may be any
-abbrev pub invariant-loop-left : goal.invariant-loop-left
-invariant-loop-left l = (l.left ≤ l.total) × ((s : Settings) (host : List ℕ) → Returning l.number (machine_with l.initial.regs s l.depth host) l.initial.cells l.journal (l.total - l.left) l.at l.regs l.cells)
-
-abbrev pub decreases-loop-left : goal.decreases-loop-left
-decreases-loop-left l = l.left
+abbrev pub invariant-loop-count : goal.invariant-loop-count
+invariant-loop-count l = (s : Settings) (host : List ℕ) → Returning l.number (machine_with l.initial.regs s l.depth host) l.initial.cells l.journal l.count l.at l.regs l.cells

@@ -25,4 +25,4 @@ returns c = λ cells.
     let a = c.args in
     let some : (a.undone ≡ 0 → ⊥) = c.if-undone-eq0.false in
     let at = 8 * (a.m.depth - a.undone) in
-    rw (c.unpack.ensures, last_taken a.m a.regs.now cells a.journal.now a.undone at (at + 8 - at) _ some c.requires.0 c.requires.1 refl (omega arith) c.entry_in-e.ensures)
+    rw (c.unpack.ensures, last_taken a.m a.m.regs cells a.journal.now a.undone at (at + 8 - at) _ some c.requires.0 c.requires.1 refl (omega arith) c.entry_in-e.ensures)

@@ -4,13 +4,16 @@ use mathlib.Core.Path.{sym, ◌∙◌}
 use native.Mathlib.Omega.{arith}
 use Rattle.forward.proofs.Loop.{fixed_first, nothing, set_out, bounds, part_room, same_code, spent, all_done, barred, again, halted}
 use Rattle.forward.proofs.run_over.Goals as goal
-use Rattle.forward.proofs.run_over.Goals.{then-told-gt0+else-stops, else-told-gt0}
+use Rattle.forward.proofs.run_over.Goals.{else-told-gt0-via-then-told-gt0+else-stops, else-told-gt0-via-else-told-gt0}
 
 pub loop-left-init : goal.loop-left-init
 loop-left-init c = (
-  fixed_first _ _ _ _ _ _ _ _ _ c.lesser-total.ensures c.requires.2 c.requires.3 c.limit_of-limit.ensures c.guard_of-guard.ensures c.requires.4,
-  set_out c.requires.0 c.requires.1,
+  fixed_first _ _ _ _ _ _ _ _ _ c.lesser-total.ensures c.requires.1 c.requires.2 c.limit_of-limit.ensures c.guard_of-guard.ensures c.requires.3,
+  set_out (search rules) c.requires.0,
 )
+
+pub overflow_sub-done : goal.overflow_sub-done
+overflow_sub-done c = let i = c.loop-left.invariant in omega (arith, i.1.few)
 
 pub finish-requires : goal.finish-requires
 finish-requires c =
@@ -40,16 +43,16 @@ pub returns-then-stops : goal.returns-then-stops
 returns-then-stops c =
     let i = c.loop-left.invariant in
     let p = c.index_of-p.ensures in
-    (halted i.0 i.1 c.loop-left-test.true (rw p at c.if-limit-p.false) (rw p) (sym c.writes_code.ensures ∙ c.if-writes_code.false) c.carry_out-s.ensures _ (λ rest. c.halt.ensures rest _ _ _))
+    (halted i.0 i.1 c.loop-left-test.true (rw p at c.if-limit-p.false) (rw p) (sym c.writes_code.ensures ∙ c.if-writes_code.false) c.carry-settings.ensures _ (λ rest. c.halt.ensures rest _ _ _))
 
 pub loop-left-preserved : goal.loop-left-preserved
 loop-left-preserved c =
     let i = c.loop-left.invariant in
     let p = c.index_of-p.ensures in
-    let on = again i.0 i.1 c.loop-left-test.true (rw p at c.if-limit-p.false) (rw p) (sym c.writes_code.ensures ∙ c.if-writes_code.false) c.carry_out-s.ensures in
-    elim c.if-told-gt0.branch [
-      | then-told-gt0+else-stops w ↦ (i.0, rw w.told-is (on (sym w.stops.ensures ∙ w.if-stops.false) (search rules) (search rules)))
-      | else-told-gt0 w ↦ let n = nothing _ c.carry_out-s.result w.if-told-gt0.false in (i.0, rw (w.told-is, n.0) (on n.1 (search rules) (search rules)))
+    let on = again i.0 i.1 c.loop-left-test.true (rw p at c.if-limit-p.false) (rw p) (sym c.writes_code.ensures ∙ c.if-writes_code.false) c.carry-settings.ensures in
+    elim c.else-told-gt0.branch [
+      | else-told-gt0-via-then-told-gt0+else-stops w ↦ (i.0, on (sym w.stops.ensures ∙ w.if-stops.false) (search rules) (search rules))
+      | else-told-gt0-via-else-told-gt0 w ↦ let n = nothing _ c.carry-settings.result.0 w.if-told-gt0.false in (i.0, on n.1 (search rules) (search rules))
     ]
 
 pub finish-requires-2 : goal.finish-requires-2
@@ -65,7 +68,7 @@ returns c =
     (all_done i.0 i.1 over _
     (c.finish-2.ensures _ _ _ (same_code i.0 i.1) (spent i.0 i.1 over)))
 
-pub slice_bounds-carry_out-end : goal.slice_bounds-carry_out-end
-slice_bounds-carry_out-end c =
+pub slice_bounds-part-end : goal.slice_bounds-part-end
+slice_bounds-part-end c =
     let i = c.loop-left.invariant in
     part_room i.0 i.1 c.loop-left-test.true

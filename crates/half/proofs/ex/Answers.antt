@@ -1,6 +1,5 @@
--- `half::ex` meets its contract: its tests are the definition's, and a fraction moves up by what its leading zeros say.
--- Assumes nothing.
-use Rattle.std.proofs.Common.{◌≡◌, ℕ, ◌+◌, ◌-◌, ◌*◌, ◌%◌, ◌^◌, arith, eq-eqb, ne_eqb}
+-- `half::ex` meets its contract: its cases are the definition's, and a fraction moves up by what its leading zeros say.
+use Rattle.std.proofs.Common.{◌≡◌, ℕ, ◌+◌, ◌-◌, ◌*◌, ◌%◌, ◌^◌, arith, ne_eqb}
 use lib.Count.{count_leading_zeros}
 use Rattle.half.specs.Half.{single, up_of, ex_of}
 use Rattle.half.proofs.Up.{Up, up}
@@ -18,24 +17,8 @@ moved s t u =
     rw same (omega (arith, u.below))
 
 pub overflow_sub-up : goal.overflow_sub-up
-overflow_sub-up c = omega (arith, (fraction_up _ c.if-fraction-eq0-2.false).counted)
+overflow_sub-up c = omega (arith, (fraction_up _ c.in-0-default.is-1.1).counted)
 
-pub returns-then-fraction-eq0 : goal.returns-then-fraction-eq0
+pub returns-in-0-default : goal.returns-in-0-default
 unfolding ex_of
-returns-then-fraction-eq0 c = rw (eq-eqb _ _ c.if-exponent-eq31.true, eq-eqb _ _ c.if-fraction-eq0.true) (omega arith)
-
-pub returns-else-fraction-eq0 : goal.returns-else-fraction-eq0
-unfolding ex_of
-returns-else-fraction-eq0 c = rw (eq-eqb _ _ c.if-exponent-eq31.true, ne_eqb _ _ c.if-fraction-eq0.false)
-
-pub returns-then-fraction-eq0-2 : goal.returns-then-fraction-eq0-2
-unfolding ex_of
-returns-then-fraction-eq0-2 c = rw (ne_eqb _ _ c.if-exponent-eq31.false, eq-eqb _ _ c.if-exponent-eq0.true, eq-eqb _ _ c.if-fraction-eq0-2.true) (omega arith)
-
-pub returns-else-fraction-eq0-2 : goal.returns-else-fraction-eq0-2
-unfolding ex_of
-returns-else-fraction-eq0-2 c = rw (ne_eqb _ _ c.if-exponent-eq31.false, eq-eqb _ _ c.if-exponent-eq0.true, ne_eqb _ _ c.if-fraction-eq0-2.false) (moved _ _ (fraction_up _ c.if-fraction-eq0-2.false))
-
-pub returns-else-exponent-eq0 : goal.returns-else-exponent-eq0
-unfolding ex_of
-returns-else-exponent-eq0 c = rw (ne_eqb _ _ c.if-exponent-eq31.false, ne_eqb _ _ c.if-exponent-eq0.false)
+returns-in-0-default c = rw (c.in-0-default.is-0, ne_eqb _ _ c.in-0-default.is-1.1) (moved _ _ (fraction_up _ c.in-0-default.is-1.1))

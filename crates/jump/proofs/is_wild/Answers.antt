@@ -12,8 +12,8 @@ returns-then-is_below_zero c =
     let low = rw (c.is_below_zero.ensures, c.imm_of.ensures) at c.if-is_below_zero.true in
     rw (c.operand.ensures, n.0, within a.regs.now (n_of a.cell) (rw (← n.0) n.1), below a.regs.now (n_of a.cell) (imm_of a.cell) low)
 
-pub returns : goal.returns
-returns c =
+pub returns-else-is_below_zero : goal.returns-else-is_below_zero
+returns-else-is_below_zero c =
     let a = c.args in
     let high = rw (c.is_below_zero.ensures, c.imm_of.ensures) at c.if-is_below_zero.false in
-    rw (above a.regs.now (n_of a.cell) (imm_of a.cell) high)
+    rw (c.if-is_below_zero.false, above a.regs.now (n_of a.cell) (imm_of a.cell) high)

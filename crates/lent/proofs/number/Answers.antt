@@ -7,6 +7,4 @@ use Rattle.lent.proofs.number.Goals as goal
 pub returns : goal.returns
 returns c =
     let a = c.args in
-    c.whole.ensures
-    ∙ number_cut a.bytes.now a.at (min a.width 4) c.least-start.result c.least-count.result c.least-start.ensures
-    (rw c.least.ensures at c.least-count.ensures)
+    c.whole.ensures ∙ number_cut a.bytes.now a.at (min a.width 4) c.least.result c.least-2.result c.least.ensures.0 (rw c.min.ensures at c.least-2.ensures.0)

@@ -1,18 +1,9 @@
--- `outcome::run_job` meets its contract: the input is too long, or refused by the load, or run.
-use mathlib.Core.Path.{sym}
-use Rattle.outcome.proofs.Cases.{outcome_long, outcome_refused, outcome_ran}
+-- `outcome::run_job` meets its contract: the input is refused, or taken in and run.
+use Rattle.outcome.proofs.Cases.{outcome_refused, outcome_ran}
 use Rattle.outcome.proofs.run_job.Goals as goal
 
-pub returns-then-input-gt-INPUT : goal.returns-then-input-gt-INPUT
-returns-then-input-gt-INPUT c = let a = c.args in
-    rw c.refused.ensures
-    (sym (outcome_long a.input.now a.cells.now a.journal.now c.if-input-gt-INPUT.true))
+pub returns-in_err-machine : goal.returns-in_err-machine
+returns-in_err-machine c = outcome_refused c.args.input.now c.args.cells.now c.args.journal.now _ _ c.take_in.ensures.taken _ c.from_residual.result c.in_err-machine.was c.take_in.ensures.numbered c.from_residual.ensures.1
 
-pub returns-in-Refused : goal.returns-in-Refused
-returns-in-Refused c = let a = c.args in
-    rw (c.refused-in-Refused.ensures, c.number.ensures)
-    (sym (outcome_refused a.input.now a.cells.now a.journal.now _ _ c.if-input-gt-INPUT.false c.load-loaded.ensures _ _ c.in-Refused.is))
-
-pub returns-in-Done : goal.returns-in-Done
-returns-in-Done c = let a = c.args in
-    rw (outcome_ran a.input.now a.cells.now a.journal.now _ _ c.if-input-gt-INPUT.false c.load-loaded.ensures c.in-Done.is, ← c.run-ran.ensures)
+pub returns : goal.returns
+returns c = rw (outcome_ran c.args.input.now c.args.cells.now c.args.journal.now _ _ c.take_in.ensures.taken _ c.in_ok-machine.was, ← c.run.ensures)

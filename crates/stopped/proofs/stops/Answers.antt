@@ -4,11 +4,11 @@ use lib.Bits.{and_comm}
 use Rattle.std.proofs.Common.{◌<◌, arith}
 use Rattle.machine.specs.State.{flags_bound}
 use Rattle.packed.specs.Packed.{unpacked_of}
-use borrow.Author.Tests.{le-leb, lt-leb}
+use borrow.Author.Tests.{lt-leb}
 use Rattle.stopped.proofs.stops.Goals as goal
 
-pub returns : goal.returns
-returns c =
+pub returns-else-told-ge-INT : goal.returns-else-told-ge-INT
+returns-else-told-ge-INT c =
     let a = c.args in
     let below : a.told < flags_bound = omega arith in
-    rw (lt-leb _ _ below, c.unpack-settings.ensures, and_comm (unpacked_of a.s).mask a.told)
+    rw (lt-leb _ _ below, c.unpack.ensures, and_comm (unpacked_of a.s).mask a.told)

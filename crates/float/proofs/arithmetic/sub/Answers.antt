@@ -1,17 +1,10 @@
 -- `float::arithmetic::sub` meets its contract: with no NaN among the operands, the logic's difference, told in bits, is the definition's.
-use mathlib.Core.Path.{sym, ◌∙◌}
 use Rattle.float.proofs.Operations.{difference_told}
-use Rattle.float.proofs.Outcomes.{neither, means_invalid, difference_nan}
+use Rattle.float.proofs.Outcomes.{means_invalid, difference_nan}
 use Rattle.float.proofs.arithmetic.sub.Goals as goal
 
-pub returns-then-either_nan : goal.returns-then-either_nan
-returns-then-either_nan c = means_invalid (difference_nan c.args.x c.args.y (sym c.either_nan.ensures ∙ c.if-either_nan.true))
+pub returns-in-Some : goal.returns-in-Some
+returns-in-Some c = rw (c.in-Some.ensures.1, c.in-Some.ensures.2, difference_told) at c.tell.ensures
 
-pub float_from_bits-x : goal.float_from_bits-x
-float_from_bits-x c = (neither c.args.x c.args.y (sym c.either_nan.ensures ∙ c.if-either_nan.false)).0
-
-pub float_from_bits-y : goal.float_from_bits-y
-float_from_bits-y c = (neither c.args.x c.args.y (sym c.either_nan.ensures ∙ c.if-either_nan.false)).1
-
-pub returns : goal.returns
-returns c = let s = c in record { real = c.tell.ensures.real; is = c.tell.ensures.is ∙ difference_told s.args.x s.args.y }
+pub returns-in-None : goal.returns-in-None
+returns-in-None c = means_invalid (difference_nan c.args.x c.args.y c.in-None.ensures)

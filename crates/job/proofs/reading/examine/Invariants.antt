@@ -4,8 +4,8 @@ use lib.ListN.{length}
 use Rattle.job.proofs.Walk.{Underway}
 use Rattle.job.proofs.reading.examine.Given as goal
 
-abbrev pub invariant-loop-why : goal.invariant-loop-why
-invariant-loop-why l = Underway l.m l.job l.at l.past
+abbrev pub invariant-loop-size : goal.invariant-loop-size
+invariant-loop-size l = Underway l.m l.job l.at l.past
 
-abbrev pub decreases-loop-why : goal.decreases-loop-why
-decreases-loop-why l = length l.job - l.at
+abbrev pub decreases-loop-size : goal.decreases-loop-size
+decreases-loop-size l = length l.job - l.at

@@ -13,7 +13,7 @@ returns c = let a = c.args in
     (record {
       added = added_then _ _ c.put_exit-a.ensures.added c.put_registers.ensures.added;
       short =
-          both_short (exit_text c.number.result a.count (pc_of a.m.regs) a.m.settings.flags) (registers_text 0 (take 255 a.m.regs))
+          both_short (exit_text c.number.result a.ran.now.count (pc_of a.ran.now.machine.regs) a.ran.now.machine.settings.flags) (registers_text 0 (take 255 a.ran.now.machine.regs))
           c.put_exit-a.ensures.short
           c.put_registers.ensures.short;
     })

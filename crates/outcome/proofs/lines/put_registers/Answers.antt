@@ -1,9 +1,9 @@
 -- `outcome::lines::put_registers` meets its contract: after i turns the lines of the first i registers are put, of at most 16 bytes each.
-use mathlib.Core.Path.{◌≡◌, refl, subst, ◌∙◌}
-use Prim.Native.Nat.{ℕ, ◌≤◌}
+use Rattle.std.proofs.Common.{rules}
+use mathlib.Core.Path.{◌≡◌, refl}
 use native.Mathlib.Omega.{arith}
 use lib.ListN.{length, take, length-append}
-use Rattle.text.specs.Text.{Added}
+use lib.Seq.{length-take-le, take_all}
 use Rattle.text.proofs.Adds.{added_then}
 use Rattle.outcome.specs.Told.{registers_text}
 use Rattle.outcome.proofs.Registers.{registers_more}
@@ -11,25 +11,21 @@ use Rattle.outcome.proofs.lines.put_registers.Goals as goal
 
 pub loop-i-init : goal.loop-i-init
 unfolding registers_text
-loop-i-init c = (omega arith, omega arith, record { end = omega arith; text = refl }, omega arith, refl)
+loop-i-init c = record { room = search rules; added = record { end = omega arith; text = refl }; short = omega arith }
 
 pub loop-i-preserved : goal.loop-i-preserved
-loop-i-preserved c = let l = c.loop-i in
-    let p = c.put_register-end in
-    let e = registers_more l.i c.args.regs.now in (
-      omega arith,
-      omega (arith, p.auto.text, p.ensures.added.end),
-      rw e (added_then _ _ l.invariant.2 p.ensures.added),
-      rw (e, length-append) (omega (arith, p.ensures.short)),
-      p.auto.text ∙ l.invariant.4,
-    )
+loop-i-preserved c = let p = c.put_register-end in
+    let e = registers_more c.loop-i.i (take 255 c.args.regs.now) in
+    record {
+      room = omega (arith, p.auto.text, p.ensures.added.end);
+      added = rw e (added_then _ _ c.loop-i.invariant.added p.ensures.added);
+      short = rw (e, length-append) (omega (arith, p.ensures.short));
+    }
 
 pub returns-clause-added : goal.returns-clause-added
-returns-clause-added c = let l = c.loop-i in
-    let n : l.i ≡ 255 = omega (arith, c.loop-i-test.false) in
-    subst (λ (k : ℕ). Added c.args.text.now c.args.at (registers_text 0 (take k c.args.regs.now)) l.text l.end) n l.invariant.2
+returns-clause-added c = rw (take_all c.loop-i.i (take 255 c.args.regs.now) c.loop-i-test.false) at c.loop-i.invariant.added
 
 pub returns-clause-short : goal.returns-clause-short
-returns-clause-short c = let l = c.loop-i in
-    let n : l.i ≡ 255 = omega (arith, c.loop-i-test.false) in
-    subst (λ (k : ℕ). length (registers_text 0 (take k c.args.regs.now)) ≤ 4080) n (omega arith)
+returns-clause-short c = let s = rw (take_all c.loop-i.i (take 255 c.args.regs.now) c.loop-i-test.false) at c.loop-i.invariant.short in
+    let n : length (take 255 c.args.regs.now) ≡ 255 = length-take-le 255 c.args.regs.now (omega arith) in
+    omega arith

@@ -13,25 +13,24 @@ put_runs-values-requires c = (c.requires, omega (arith, runs_short c.args.cells.
 
 pub put_values-setup-requires : goal.put_values-setup-requires
 put_values-setup-requires c = let a = c.args in
-    let n : length a.machine.regs ≡ 256 = search rules in
-    (n, omega (arith, job_short a.cells.now a.machine.regs c.requires n, c.put_runs-values.ensures.end))
+    let n : length a.machine.now.regs ≡ 256 = search rules in
+    omega (arith, job_short a.cells.now a.machine.now.regs c.requires n, c.put_runs-values.ensures.end)
 
 pub put_setup-host-requires : goal.put_setup-host-requires
 put_setup-host-requires c = let a = c.args in
-    let n : length a.machine.regs ≡ 256 = search rules in
-    omega (arith, job_short a.cells.now a.machine.regs c.requires n, c.put_runs-values.ensures.end, c.put_values-setup.ensures.end)
+    let n : length a.machine.now.regs ≡ 256 = search rules in
+    omega (arith, job_short a.cells.now a.machine.now.regs c.requires n, c.put_runs-values.ensures.end, c.put_values-setup.ensures.end)
 
 pub put_host-end-requires : goal.put_host-end-requires
 put_host-end-requires c = let a = c.args in
-    let n : length a.machine.regs ≡ 256 = search rules in
-    let w : length a.machine.host ≡ 5 = search rules in
-    (w, omega (arith, job_short a.cells.now a.machine.regs c.requires n, setup_short a.machine.settings, c.put_runs-values.ensures.end, c.put_values-setup.ensures.end, c.put_setup-host.ensures.end))
+    let n : length a.machine.now.regs ≡ 256 = search rules in
+    omega (arith, job_short a.cells.now a.machine.now.regs c.requires n, setup_short a.machine.now.settings, c.put_runs-values.ensures.end, c.put_values-setup.ensures.end, c.put_setup-host.ensures.end)
 
 pub put_head-requires : goal.put_head-requires
 put_head-requires c = let a = c.args in
-    let n : length a.machine.regs ≡ 256 = search rules in
-    let w : length a.machine.host ≡ 5 = search rules in
-    omega (arith, job_short a.cells.now a.machine.regs c.requires n, setup_short a.machine.settings, host_length a.machine.host w, c.put_runs-values.ensures.end, c.put_values-setup.ensures.end, c.put_setup-host.ensures.end, c.put_host-end.ensures.end)
+    let n : length a.machine.now.regs ≡ 256 = search rules in
+    let w : length a.machine.now.host ≡ 5 = search rules in
+    omega (arith, job_short a.cells.now a.machine.now.regs c.requires n, setup_short a.machine.now.settings, host_length a.machine.now.host w, c.put_runs-values.ensures.end, c.put_values-setup.ensures.end, c.put_setup-host.ensures.end, c.put_host-end.ensures.end)
 
 pub returns : goal.returns
 unfolding saved_of

@@ -1,26 +1,35 @@
--- `saver::writing::put_runs` meets its contract: each turn stores the run that begins there, and what is left to store leads where the whole leads.
-use Rattle.std.proofs.Common.{rules}
-use Prim.Native.Nat.{◌-◌, ◌≤◌}
+-- `saver::writing::put_runs` meets its contract: each turn stores a run, and what is left to store leads where the whole leads.
+use Rattle.std.proofs.Common.{rules, tests}
 use native.Mathlib.Omega.{arith}
-use lib.Seq.{length-take-le}
-use lib.ListN.{length, drop, length-drop}
-use Rattle.saver.proofs.Pieces.{span_end, left_turn, left_fits, left_over, runs_turn, runs_over}
+use lib.ListN.{length}
+use Rattle.std.proofs.lemmas.Iterator.Splits.{YieldsList-from_slice_split}
+use Rattle.std.proofs.lemmas.Iterator.Consumers.{YieldsList-turn, YieldsList-end}
+use Rattle.std.proofs.lemmas.List.{length_push}
+use Rattle.saver.proofs.Pieces.{is_zero, pieces, whole_left, left_turn, left_fits, left_over, runs_pieces, cells_pieces, runs_turn, cells_turn, runs_over}
 use Rattle.saver.proofs.writing.put_runs.Goals as goal
+
+pub loop-run-init : goal.loop-run-init
+loop-run-init c = record { left = rw (← runs_pieces c.args.cells.now) whole_left; cells = omega (arith, cells_pieces c.args.cells.now) }
 
 pub put_run-next-requires : goal.put_run-next-requires
 put_run-next-requires c =
-    let e = span_end c.args.cells.now c.loop-i.i _ c.loop-i-test.true c.run_end-end.ensures in
-    (omega arith, rw (length-take-le (c.run_end-end.result - c.loop-i.i) (drop c.loop-i.i c.args.cells.now) (simp length-drop (omega arith))) (omega arith), left_fits (runs_turn c.args.cells.now c.loop-i.i _ c.run_end-end.ensures) c.loop-i.invariant.1 c.requires.1)
+    let s = c.split-run-items.ensures in
+    let y = YieldsList-from_slice_split _ is_zero c.args.cells.now (cc s.rest) (cc s.done) (cc s.closure) (λ x b q k. search (rules, tests)) in
+    let t = YieldsList-turn y c.loop-run.yielded _ c.loop-run.yielded_by _ _ c.in-Some.run' c.in-Some.is c.next.ensures.steps in
+    let n = cells_turn (length c.loop-run.yielded) (pieces c.args.cells.now) c.in-Some.run'.now t in
+    (omega arith, omega arith, left_fits (runs_turn c.loop-run.base _ _ _ t) c.loop-run.invariant.left c.requires.1)
 
-pub loop-i-preserved : goal.loop-i-preserved
-loop-i-preserved c =
-    let e = span_end c.args.cells.now c.loop-i.i _ c.loop-i-test.true c.run_end-end.ensures in
-    (omega arith, left_turn (runs_turn c.args.cells.now c.loop-i.i _ c.run_end-end.ensures) c.loop-i.invariant.1 c.put_run-next.ensures)
+pub loop-run-preserved : goal.loop-run-preserved
+loop-run-preserved c =
+    let s = c.split-run-items.ensures in
+    let y = YieldsList-from_slice_split _ is_zero c.args.cells.now (cc s.rest) (cc s.done) (cc s.closure) (λ x b q k. search (rules, tests)) in
+    let t = YieldsList-turn y c.loop-run.yielded _ c.loop-run.yielded_by _ _ c.in-Some.run' c.in-Some.is c.next.ensures.steps in
+    let n = cells_turn (length c.loop-run.yielded) (pieces c.args.cells.now) c.in-Some.run'.now t in
+    rw (length_push c.loop-run.yielded c.in-Some.run') (record { left = left_turn (runs_turn c.loop-run.base _ _ _ t) c.loop-run.invariant.left c.put_run-next.ensures; cells = omega arith })
 
 pub returns : goal.returns
-returns c = left_over (runs_over _ c.args.cells.now c.loop-i.i c.loop-i-test.false) c.loop-i.invariant.1
-
-pub slice_bounds-put_run-end : goal.slice_bounds-put_run-end
-slice_bounds-put_run-end c =
-    let h : c.run_end-end.result ≤ length c.args.cells.now = span_end c.args.cells.now c.loop-i.i _ c.loop-i-test.true c.run_end-end.ensures in
-    search rules
+returns c =
+    let s = c.split-run-items.ensures in
+    let y = YieldsList-from_slice_split _ is_zero c.args.cells.now (cc s.rest) (cc s.done) (cc s.closure) (λ x b q k. search (rules, tests)) in
+    let e = YieldsList-end y c.loop-run.yielded _ c.loop-run.yielded_by _ _ c.in-None.is c.next.ensures.steps in
+    left_over (runs_over c.loop-run.base _ _ e.1) c.loop-run.invariant.left

@@ -6,4 +6,4 @@ use Rattle.verdict.proofs.lines.put_bad_cell.Goals as goal
 
 pub returns : goal.returns
 unfolding told_of
-returns c = let s = c in record { added = added_then _ _ (added_then _ _ (added_then _ _ c.put_number-a.ensures c.put-b.ensures) c.put_cell-c.ensures) c.put_flaw.ensures; short = bad_cell_short s.args.place s.args.cell s.args.flaw s.ranges.place.fits s.ranges.cell.fits }
+returns c = let s = c in record { added = added_then _ _ (added_then _ _ (added_then _ _ c.put_number-a.ensures c.put-b.ensures) c.put_cell-c.ensures) (rw c.flaw_line.ensures at c.put.ensures); short = bad_cell_short s.args.place s.args.cell s.args.flaw s.ranges.place.fits s.ranges.cell.fits }
