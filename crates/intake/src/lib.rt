@@ -60,12 +60,12 @@ pub fn take_in(input: &[u8], cells: &mut [u32]) -> Result<Machine, Refused>
 }
 
 // Puts the line of a refusal, which has at most 53 bytes, into a text from a place on, and answers where it ends.
-pub fn put_refused(text: &mut [u8], at: usize, number: u64, offset: u64) -> usize
-    ensures added { Added text.old at (refused_text number offset) text.new result }
-    ensures short { length (refused_text number offset) ≤ 53 }
+pub fn put_refused(text: &mut [u8], at: usize, refused: Refused) -> usize
+    ensures added { Added text.old at (refused_text refused.number refused.offset) text.new result }
+    ensures short { length (refused_text refused.number refused.offset) ≤ 53 }
 {
-    let a = put_number(text, at, b"refused ", number);
-    let b = put_number(text, a, b" at ", offset);
+    let a = put_number(text, at, b"refused ", refused.number);
+    let b = put_number(text, a, b" at ", refused.offset);
     put(text, b, b"\n")
 }
 

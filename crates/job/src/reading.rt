@@ -13,14 +13,14 @@ use lent::number;
 use machine::Machine;
 use refusal::Refusal;
 
-// What becomes of a record that is not refused: it is the last, or on to the next.
+// What becomes of a record that is not refused: it is the last, or on to the next. No Option, since the definition's `Fate` names both.
 #[derive(Drop)]
 pub(crate) enum Look {
     Last,
     Next { size: usize, past: Past },
 }
 
-// A record's payload: 46, 45, 10. Past, row and payload are taken one by one, as the definitions take them.
+// A record's payload: 46, 45, 10. Past, row and payload are taken one by one, as `payload_fate` takes them.
 fn look_in(m: usize, past: Past, row: Row, payload: &[u8]) -> Result<Look, Refusal>
     requires { Sized row.kind (length payload.now) }
     ensures { looked_of result ≡ payload_fate m past row payload.now (length payload.now) }

@@ -46,6 +46,6 @@ pub fn put_outcome(text: &mut [u8], at: usize, outcome: Result<Ran, Refused>) ->
 {
     match outcome {
         Ok(ran) => put_ran(text, at, &ran),
-        Err(refused) => put_refused(text, at, refused.number, refused.offset),
+        Err(refused) => put_refused(text, at, refused),
     }
 }

@@ -19,7 +19,7 @@ fn put(room: &mut [u8], at: usize, width: usize, number: u32) -> usize
     at + width
 }
 
-// A record's head: the payload's length, and the kind.
+// A record's head: the payload's length, and the kind by its number, as `record_of` has it.
 fn put_head(room: &mut [u8], at: usize, size: u32, kind: u32) -> usize
     requires { at + 6 < 2 ^ 64 }
     ensures { Stored room.old at (bytes_of 4 size ++ bytes_of 2 kind) room.new result }

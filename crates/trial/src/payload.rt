@@ -15,7 +15,7 @@ impl Payload<'_> {
         number
     }
 
-    // The numbers of the next byte, and of the next two, four and eight; four bytes are also a size.
+    // The numbers of the next byte, and of the next two, four and eight; four bytes are also a size. The remainders show that a cast fits.
     pub(crate) fn byte(&mut self) -> u8 {
         (self.number(1) % 256) as u8
     }

@@ -82,7 +82,7 @@ pub fn put_verdict(text: &mut [u8], at: usize, verdict: Result<usize, Unfit>) ->
 {
     match verdict {
         Ok(l) => put_forward_only(text, at, l),
-        Err(Unfit::Refused(refused)) => put_refused(text, at, refused.number, refused.offset),
+        Err(Unfit::Refused(refused)) => put_refused(text, at, refused),
         Err(Unfit::NoStart) => put_no_start(text, at),
         Err(Unfit::BadLength { most }) => put_bad_length(text, at, most),
         Err(Unfit::BadCell { place, cell, flaw }) => put_bad_cell(text, at, place, cell, flaw),

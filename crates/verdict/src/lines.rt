@@ -59,7 +59,7 @@ fn flaw_line(flaw: Flaw) -> &'static [u8]
     }
 }
 
-// Puts the lines of a cell that is not allowed.
+// Puts the lines of a cell that is not allowed. Place, cell and flaw are taken one by one, as `told_of` takes them.
 pub(crate) fn put_bad_cell(text: &mut [u8], at: usize, place: usize, cell: u32, flaw: Flaw) -> usize
     ensures { Told text.old at (told_of (Err (BadCell place cell flaw))) text.new result }
 {

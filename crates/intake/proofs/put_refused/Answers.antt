@@ -1,4 +1,5 @@
 -- `put_refused` meets its contract: the pieces, put one after the other, are the line.
+use Rattle.std.proofs.Common.{rules}
 use Rattle.text.proofs.Adds.{added_then}
 use Rattle.intake.proofs.Lengths.{refused_short}
 use Rattle.intake.proofs.put_refused.Goals as goal
@@ -7,4 +8,4 @@ pub returns-clause-added : goal.returns-clause-added
 returns-clause-added c = added_then _ _ (added_then _ _ c.put_number-a.ensures c.put_number-b.ensures) c.put.ensures
 
 pub returns-clause-short : goal.returns-clause-short
-returns-clause-short c = refused_short c.args.number c.args.offset c.ranges.number.fits c.ranges.offset.fits
+returns-clause-short c = refused_short _ _ (search rules) (search rules)
