@@ -138,6 +138,7 @@ print_once c before r t room room' p q = lines.print_once r t room room' (unique
 pub read_once : (text : List ℕ) (r t : Result ℕ NoLine) → Small r → reader.Reads text (read_reply r) → reader.Reads text (read_reply t) → r ≡ t
 read_once = trips.read_once
 
+-- a fresh machine, by `fresh`, and by `Refused::machine` of `job` and of `intake`
 pub fresh_once : (r t : Machine) → r ≡ fresh_machine → t ≡ fresh_machine → r ≡ t
 fresh_once r t = unique
 

@@ -5,7 +5,7 @@ use Rattle.machine.specs.State.{fresh_machine}
 use Rattle.job.specs.Job.{Load}
 use Rattle.intake.specs.declared.Refused.{Refused}
 
--- an input that is refused leaves a fresh machine
+-- the machine of an input that is refused is the one that `Refused::machine` answers
 abbrev pub taken_with : Result Machine Refused → List ℕ → Load
 taken_with (Ok m) cells = record { machine = m; cells = cells; said = record { number = 0; offset = 0 } }
 taken_with (Err r) cells = record { machine = fresh_machine; cells = cells; said = record { number = r.number; offset = r.offset } }

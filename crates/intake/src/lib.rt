@@ -5,6 +5,7 @@
 ghost use Rattle.std.specs.Prelude.{◌≡◌, ◌≢◌, ◌≤◌, ◌<◌, IfOk, IfErr, length, take};
 ghost use Rattle.std.specs.Io.{ReadsAtMost};
 ghost use Rattle.std.specs.Io.KnownBytes.{Consumes, IsAtEnd};
+ghost use Rattle.machine.specs.State.{fresh_machine};
 ghost use Rattle.text.specs.Text.{Added};
 ghost use Rattle.refusal.specs.Refusal.{number_of};
 ghost use Rattle.intake.specs.Intake.{refused_text, taken_of};
@@ -30,6 +31,16 @@ impl Intake {
 pub struct Refused {
     pub number: u64,
     pub offset: u64,
+}
+
+impl Refused {
+    // The machine of a refused input: a fresh one, with zeros for the host's words.
+    #[tactic(auto, unfolding(machine::specs::State::fresh_machine))]
+    pub fn machine(self) -> Machine
+        ensures { result ≡ fresh_machine }
+    {
+        Machine::fresh()
+    }
 }
 
 impl From<job::Refused> for Refused {

@@ -9,7 +9,7 @@ use Rattle.job.specs.Job.{Notice, Load}
 abbrev pub notice_of : Refused → Notice
 notice_of r = record { number = number_of r.why; offset = r.offset }
 
--- a load that is refused leaves a fresh machine
+-- the machine of a load that is refused is the one that `Refused::machine` answers
 abbrev pub load_with : Result Machine Refused → List ℕ → Load
 load_with (Ok m) cells = record { machine = m; cells = cells; said = record { number = 0; offset = 0 } }
 load_with (Err r) cells = record { machine = fresh_machine; cells = cells; said = notice_of r }

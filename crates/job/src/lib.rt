@@ -3,6 +3,7 @@
 #![tactic(auto)]
 
 ghost use Rattle.std.specs.Prelude.{◌≡◌};
+ghost use Rattle.machine.specs.State.{fresh_machine};
 ghost use Rattle.job.specs.Job.{load_of};
 ghost use Rattle.job.specs.Answers.{load_with};
 
@@ -19,6 +20,16 @@ use refusal::Refusal;
 pub struct Refused {
     pub why: Refusal,
     pub offset: usize,
+}
+
+impl Refused {
+    // The machine of a refused load: a fresh one, with zeros for the host's words, whatever the host gave.
+    #[tactic(auto, unfolding(machine::specs::State::fresh_machine))]
+    pub fn machine(self) -> Machine
+        ensures { result ≡ fresh_machine }
+    {
+        Machine::fresh()
+    }
 }
 
 // A job, with the host's words, into the cells that the host lends: the machine and the cells that it holds, or the first refusal with

@@ -12,7 +12,7 @@ abbrev pub end_of : Result Ran Refused → End
 end_of (Ok r) = ran (said_of r.stop) r.count
 end_of (Err r) = refused r.number r.offset
 
--- the machine of a refused job is fresh
+-- the machine of a refused job is the one that `intake::Refused::machine` answers
 abbrev pub machine_in : Result Ran Refused → Machine
 machine_in (Ok r) = r.machine
 machine_in (Err r) = fresh_machine

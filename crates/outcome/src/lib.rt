@@ -32,7 +32,8 @@ impl Sizes {
     pub const TEXT: usize = 4164;
 }
 
-// Loads an input's job into the cells and runs it over them and the journal.
+// Loads an input's job into the cells and runs it over them and the journal. The machine of a refused job is the one that
+// its refusal answers.
 pub fn run_job(input: &[u8], cells: &mut [u32], journal: &mut [u32]) -> Result<Ran, Refused>
     ensures { outcome_with result cells.new journal.new ≡ outcome_of input.now cells.old journal.old }
 {

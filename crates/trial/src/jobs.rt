@@ -10,7 +10,8 @@ use refusal::Refusal;
 use std::io;
 use std::io::Write;
 
-// Loads a job with the host's words into cells and writes the two lines of it. The machine of a refused job is fresh.
+// Loads a job with the host's words into cells and writes the two lines of it. The machine of a refused job is the one
+// that its refusal answers.
 fn load<W: Write>(
     out: &mut W,
     job: &[u8],
@@ -22,7 +23,7 @@ fn load<W: Write>(
         Ok(_) => writeln!(out, "loaded")?,
         Err(Refused { why, offset }) => writeln!(out, "refused {} at {offset}", why.number())?,
     }
-    let machine = loaded.unwrap_or(Machine::fresh());
+    let machine = loaded.unwrap_or_else(|refused| refused.machine());
     put_machine(out, &machine, cells)?;
     writeln!(out)?;
     Ok(machine)
