@@ -6,6 +6,7 @@ use mathlib.Core.List.{List, [], append-nil, append_assoc}
 use native.Mathlib.Omega.{arith}
 use lib.ListN.{length, set, take, drop, length-drop, drop_of_length-le}
 use lib.Seq.{sets, sets-eq, take_all, drop-drop, length-take-le}
+use Rattle.std.proofs.lemmas.List.{length-take}
 use borrow.Rule.Slice.PartMut.{put_mid}
 use Rattle.lent.specs.Little.{number_at}
 use Rattle.job.specs.Job.{words_of}
@@ -18,6 +19,11 @@ pub length-words : (n : ℕ) (l : List ℕ) → length (words_of n l) ≡ n
 unfolding words_of
 length-words zero l = refl
 length-words (suc n) l = ap suc (length-words n (drop 4 l))
+
+-- the four bytes of a word, lent alone
+pub word_lent : (words : List ℕ) (at : ℕ) → number_at 0 4 (take (at + 4 - at) (drop at words)) ≡ number_at at 4 words
+unfolding number_at
+word_lent words at = let n : at + 4 - at ≡ 4 = omega arith in rw (n, take_all 4 (take 4 (drop at words)) (omega (arith, length-take 4 (drop at words))))
 
 -- one word stored
 pub words_turn : (part words : List ℕ) (count i v : ℕ) → i < count → v ≡ number_at (4 * i) 4 words

@@ -95,12 +95,13 @@ pub(crate) fn examine(job: &[u8], m: usize) -> Result<(), Refused>
     Ok(())
 }
 
-// Each word of the part is read from its four bytes.
+// Each word of the part is read from its four bytes: they are lent alone, so that how many there are is known where they are read.
 fn put_words(part: &mut [u32], words: &[u8])
+    requires words_hold { 4 * length part.old ≤ length words.now }
     ensures { part.new ≡ words_of (length part.old) words.now }
 {
     for (i, cell) in part.iter_mut().enumerate() {
-        *cell = number(words, 4 * i, 4);
+        *cell = number(&words[4 * i..4 * i + 4], 0, 4);
     }
 }
 

@@ -1,15 +1,16 @@
 -- Pieces stored one after the other, and the pieces of a saved job: where each begins, and how long they are at most.
 -- Assumes nothing.
-use Prim.Native.Nat.{ℕ, suc, ◌+◌, ◌*◌, ◌≤◌, ◌<◌}
+use Prim.Native.Nat.{ℕ, suc, ◌+◌, ◌-◌, ◌*◌, ◌≤◌, ◌<◌}
 use mathlib.Core.Path.{refl, sym, ap, ◌≡◌, ◌∙◌}
-use mathlib.Core.Bool.{Bool, true, false, cond}
-use mathlib.Core.List.{List, [], append_assoc, append-nil, ◌∷◌, ◌++◌}
+use mathlib.Core.Bool.{true, false}
+use mathlib.Core.List.{List, [], append-nil, ◌∷◌, ◌++◌}
 use native.Mathlib.Nat.{add-zero}
 use native.Mathlib.Numerals.{add-one}
 use native.Mathlib.Omega.{arith}
 use lib.Dec.{eqb}
-use lib.ListN.{length, get_or, drop, length-append, drop_of_length-le}
-use lib.Seq.{sets, length-sets, drop-cons}
+use lib.ListN.{length, get_or, take, drop, length-append, length-drop, drop_of_length-le}
+use lib.Seq.{sets, length-sets, length-take-le, take-suc, drop-cons}
+use Rattle.std.proofs.lemmas.List.{get_or-drop}
 use borrow.Author.Tests.{eq-eqb, ne_eqb}
 use Rattle.machine.specs.declared.Settings.{Settings}
 use Rattle.machine.proofs.Tests.{picked}
@@ -18,7 +19,6 @@ use Rattle.machine.specs.State.{most_cells}
 use Rattle.lent.specs.Little.{bytes_of}
 use Rattle.saver.specs.Saving.{record_of, word_bytes, run_record, runs_from, value_record, values_from, fresh_of, setup_of, host_of}
 use Rattle.saver.specs.Inner.{Stored, Fits}
-use Rattle.std.specs.List.{slice_split, onto_first}
 use Rattle.lent.proofs.Numbers.{length-bytes}
 
 -- a piece stored where another ends
@@ -60,6 +60,9 @@ module _ {l p : List ℕ} {at : ℕ} where
 
   pub left_over : {w m : List ℕ} {k : ℕ} → w ≡ [] → Left l at p m k w → Stored l at p m k
   left_over e h = record { end = rw (e, add-zero) at h.end; text = rw e at h.text }
+
+  pub left_same : {w v m : List ℕ} {k : ℕ} → w ≡ v → Left l at p m k w → Left l at p m k v
+  left_same e h = record { end = rw e at h.end; text = rw e at h.text }
 
   pub left_length : {m w : List ℕ} {k : ℕ} → Left l at p m k w → length m ≡ length l
   left_length {m} {w} {k} h = sym (length-sets m k w) ∙ ap length h.text ∙ length-sets l at p
@@ -115,85 +118,41 @@ unfolding run_record
 run_none base [] h = refl
 run_none base (v ∷ run) h = absurd (omega arith)
 
--- ---- the runs, as the pieces between the cells that are 0
+-- ---- the runs, cell by cell
 
-abbrev pub is_zero : ℕ → Bool
-is_zero v = eqb v 0
+-- the cells of a run that has begun, up to a place
+abbrev pub begun : List ℕ → ℕ → ℕ → List ℕ
+begun cells base i = take (i - base) (drop base cells)
 
-abbrev pub pieces : List ℕ → List (List ℕ)
-pieces cells = slice_split is_zero cells
+pub begun_length : (cells : List ℕ) (base i : ℕ) → i ≤ length cells → length (begun cells base i) ≡ i - base
+begun_length cells base i h = length-take-le (i - base) (drop base cells) (simp length-drop (omega arith))
 
--- their records, where each begins a cell past the end of the last
-unfoldable pub runs_of : ℕ → List (List ℕ) → List ℕ
-runs_of base [] = []
-runs_of base (run ∷ runs) = run_record base run ++ runs_of (base + length run + 1) runs
+begun_more : (cells : List ℕ) (base i : ℕ) → base ≤ i → i < length cells → begun cells base (i + 1) ≡ begun cells base i ++ (get_or cells i 0 ∷ [])
+begun_more cells base i b h =
+    let n : i + 1 - base ≡ suc (i - base) = omega arith in
+    let k : base + (i - base) ≡ i = omega arith in
+    rw (n, take-suc (drop base cells) (i - base) 0 (simp length-drop (omega arith)), get_or-drop base cells (i - base) 0, k)
 
--- the cells that they take, each with the one after it
-unfoldable pub cells_of : List (List ℕ) → ℕ
-cells_of [] = 0
-cells_of (run ∷ runs) = length run + 1 + cells_of runs
+-- a cell that is not 0 goes to the run
+pub runs_on : (cells : List ℕ) (base i : ℕ) → base ≤ i → i < length cells → (get_or cells i 0 ≡ 0 → ⊥)
+    → runs_from base (begun cells base i) (drop i cells) ≡ runs_from base (begun cells base (i + 1)) (drop (i + 1) cells)
+unfolding runs_from
+runs_on cells base i b h z = let m : i + 1 ≡ suc i = omega arith in rw (drop-cons cells i 0 h, ne_eqb (get_or cells i 0) 0 z, begun_more cells base i b h, m)
 
--- a run that has begun goes on in the first piece
-abbrev with_front : List ℕ → List (List ℕ) → List (List ℕ)
-with_front run [] = run ∷ []
-with_front run (piece ∷ more) = (run ++ piece) ∷ more
+-- one that is 0 ends it
+pub runs_turn : (cells : List ℕ) (base i : ℕ) → base ≤ i → i < length cells → get_or cells i 0 ≡ 0
+    → Parts (runs_from base (begun cells base i) (drop i cells)) (run_record base (begun cells base i)) (runs_from (i + 1) (begun cells (i + 1) (i + 1)) (drop (i + 1) cells))
+unfolding runs_from
+runs_turn cells base i b h z =
+    let n : base + length (begun cells base i) + 1 ≡ i + 1 = omega (arith, begun_length cells base i (omega arith)) in
+    let k : i + 1 - (i + 1) ≡ 0 = omega arith in
+    record { parts = rw (drop-cons cells i 0 h, eq-eqb (get_or cells i 0) 0 z, n, k, add-one) }
 
-front_onto : (run : List ℕ) (v : ℕ) (s : List (List ℕ)) → with_front run (onto_first v s) ≡ with_front (run ++ v ∷ []) s
-front_onto run v [] = refl
-front_onto run v (piece ∷ more) = rw (append_assoc run (v ∷ []) piece)
-
-front_none : (cells : List ℕ) → with_front [] (pieces cells) ≡ pieces cells
-front_none [] = refl
-front_none (v ∷ cells) = by (eqb v 0) (pieces cells)
-  where
-    by : (t : Bool) (s : List (List ℕ)) → with_front [] (cond t ([] ∷ s) (onto_first v s)) ≡ cond t ([] ∷ s) (onto_first v s)
-    by true s = refl
-    by false [] = refl
-    by false (piece ∷ more) = refl
-
-runs_split : (cells run : List ℕ) (base : ℕ) → runs_from base run cells ≡ runs_of base (with_front run (pieces cells))
-unfolding runs_from runs_of
-runs_split [] run base = rw (append-nil run, append-nil (run_record base run))
-runs_split (v ∷ cells) run base = by (eqb v 0) (runs_split cells [] (base + length run + 1) ∙ ap (runs_of (base + length run + 1)) (front_none cells)) (runs_split cells (run ++ v ∷ []) base)
-  where
-    by : (t : Bool) → runs_from (base + length run + 1) [] cells ≡ runs_of (base + length run + 1) (pieces cells) → runs_from base (run ++ v ∷ []) cells ≡ runs_of base (with_front (run ++ v ∷ []) (pieces cells))
-        → cond t (run_record base run ++ runs_from (base + length run + 1) [] cells) (runs_from base (run ++ v ∷ []) cells) ≡ runs_of base (with_front run (cond t ([] ∷ pieces cells) (onto_first v (pieces cells))))
-    by true next on = rw (append-nil run, next)
-    by false next on = on ∙ rw (front_onto run v (pieces cells))
-
-pub runs_pieces : (cells : List ℕ) → runs_from 0 [] cells ≡ runs_of 0 (pieces cells)
-runs_pieces cells = runs_split cells [] 0 ∙ ap (runs_of 0) (front_none cells)
-
-no_front : (cells : List ℕ) → cells_of (with_front [] (pieces cells)) ≡ length {A = ℕ} [] + length cells + 1 → cells_of (pieces cells) ≡ length cells + 1
-no_front cells h = sym (ap cells_of (front_none cells)) ∙ h ∙ omega arith
-
-cells_split : (cells run : List ℕ) → cells_of (with_front run (pieces cells)) ≡ length run + length cells + 1
-unfolding cells_of
-cells_split [] run = rw (append-nil run) (omega arith)
-cells_split (v ∷ cells) run = by (eqb v 0) (no_front cells (cells_split cells [])) (cells_split cells (run ++ v ∷ []))
-  where
-    by : (t : Bool) → cells_of (pieces cells) ≡ length cells + 1 → cells_of (with_front (run ++ v ∷ []) (pieces cells)) ≡ length (run ++ v ∷ []) + length cells + 1
-        → cells_of (with_front run (cond t ([] ∷ pieces cells) (onto_first v (pieces cells)))) ≡ length run + suc (length cells) + 1
-    by true next on = rw (append-nil run, next) (omega arith)
-    by false next on = ap cells_of (front_onto run v (pieces cells)) ∙ on ∙ rw (length-append run (v ∷ [])) (omega arith)
-
-pub cells_pieces : (cells : List ℕ) → cells_of (pieces cells) ≡ length cells + 1
-cells_pieces cells = no_front cells (cells_split cells [])
-
-pub runs_turn : (base n : ℕ) (all : List (List ℕ)) (run : List ℕ) → (n < length all) × (run ≡ get_or all n run) → Parts (runs_of base (drop n all)) (run_record base run) (runs_of (base + (length run + 1)) (drop (n + 1) all))
-unfolding runs_of
-runs_turn base n all run h =
-    let e : base + length run + 1 ≡ base + (length run + 1) = omega arith in
-    let m : n + 1 ≡ suc n = omega arith in
-    record { parts = rw (drop-cons all n run h.0, ← h.1, m, ← e) }
-
-pub cells_turn : (n : ℕ) (all : List (List ℕ)) (run : List ℕ) → (n < length all) × (run ≡ get_or all n run) → cells_of (drop n all) ≡ length run + 1 + cells_of (drop (n + 1) all)
-unfolding cells_of
-cells_turn n all run h = let m : n + 1 ≡ suc n = omega arith in rw (drop-cons all n run h.0, ← h.1, m)
-
-pub runs_over : (base n : ℕ) (all : List (List ℕ)) → n ≡ length all → runs_of base (drop n all) ≡ []
-unfolding runs_of
-runs_over base n all h = rw (drop_of_length-le all {i = n} (omega arith))
+-- and so does the last cell's end
+pub runs_end : (cells : List ℕ) (base i : ℕ) → i ≡ length cells
+    → Parts (runs_from base (begun cells base i) (drop i cells)) (run_record base (begun cells base (length cells))) []
+unfolding runs_from
+runs_end cells base i e = record { parts = rw (drop_of_length-le cells {i = i} (omega arith), e, append-nil) }
 
 pub value_none : (i v : ℕ) → v ≡ 0 → value_record i v ≡ []
 unfolding value_record

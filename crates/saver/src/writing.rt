@@ -60,11 +60,13 @@ fn put_runs(room: &mut [u8], at: usize, cells: &[u32]) -> usize
 {
     let mut next = at;
     let mut base = 0;
-    for run in cells.split(|cell| *cell == 0) {
-        next = put_run(room, next, base, run);
-        base += run.len() + 1;
+    for (i, cell) in cells.iter().enumerate() {
+        if *cell == 0 {
+            next = put_run(room, next, base, &cells[base..i]);
+            base = i + 1;
+        }
     }
-    next
+    put_run(room, next, base, &cells[base..])
 }
 
 // A register that is not 0.

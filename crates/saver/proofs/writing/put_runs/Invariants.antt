@@ -1,14 +1,13 @@
--- `saver::writing::put_runs` meets its contract: each turn stores a run, and what is left to store leads where the whole leads.
-use Prim.Native.Nat.{◌+◌}
-use mathlib.Core.Path.{◌≡◌}
+-- `saver::writing::put_runs` meets its contract: what is left to store leads where the whole leads, the run that has begun among it.
+use Prim.Native.Nat.{◌≤◌}
 use mathlib.Core.List.{[]}
-use lib.ListN.{length, drop}
-use Rattle.saver.proofs.Pieces.{Left, pieces, runs_of, cells_of}
+use lib.ListN.{drop}
+use Rattle.saver.proofs.Pieces.{Left, begun}
 use Rattle.saver.specs.Saving.{runs_from}
 use Rattle.saver.proofs.writing.put_runs.Given as goal
 
-abbrev pub invariant-loop-run : goal.invariant-loop-run
-invariant-loop-run l = record {
-  left : Left l.initial.room l.at (runs_from 0 [] l.cells) l.room l.next (runs_of l.base (drop (length l.yielded) (pieces l.cells)));
-  cells : l.base + cells_of (drop (length l.yielded) (pieces l.cells)) ≡ length l.cells + 1;
+abbrev pub invariant-loop-i : goal.invariant-loop-i
+invariant-loop-i l = record {
+  base : l.base ≤ l.i;
+  left : Left l.initial.room l.at (runs_from 0 [] l.cells) l.room l.next (runs_from l.base (begun l.cells l.base l.i) (drop l.i l.cells));
 }
